@@ -1,0 +1,73 @@
+-- Laws of the search's keys: how one is computed, how large it is, and that the least has the lowest index of least distance.
+use Prim.Native.Nat.{ℕ, _+_, _-_, _*_, _^_, _≤_, _<_}
+use native.Mathlib.Nat.{mul-add, add-mul, mul-comm}
+use native.Mathlib.Omega.{arith}
+use mathlib.Core.Path.{_≡_, refl}
+use mathlib.Core.Bool.{Bool, true, false}
+use mathlib.Core.List.{map}
+use lib.Dec.{leb, ltb}
+use lib.ListN.{getD, List·getD-eq-default}
+use borrow.Author.Tests.{leb-true, leb-false, ltb-true, ltb-false}
+use Rattle.bptc.specs.declared.Rgb.{Rgb}
+use Rattle.bptc.specs.Rows.{upFrom}
+use Rattle.bptc.specs.Colour.{Below, sqDiff, distSq, norm}
+use Rattle.bptc.specs.Pixels.{pixelOf}
+use Rattle.bptc.specs.Keys.{Small, raise, keyOf, lesserOf}
+use Rattle.bptc.proofs.Tests.{pick-elim}
+use Rattle.bptc.proofs.Rows.{getD-each}
+use Rattle.bptc.proofs.ColourBounds.{sq-up, sq-down, square-byte, dist-byte}
+
+-- a pixel has bytes for channels, whatever the number
+pub pixel-byte : (x : ℕ) → Below 256 (pixelOf x)
+unfolding pixelOf
+pixel-byte x = record { r = omega arith; g = omega arith; b = omega arith }
+
+-- the greatest squared length
+pub norm-byte : (c : Rgb) → Below 256 c → norm c ≤ 195075
+unfolding norm
+norm-byte c h = omega (arith, square-byte (c .r) (omega (arith, h .r)), square-byte (c .g) (omega (arith, h .g)), square-byte (c .b) (omega (arith, h .b)))
+
+-- (b - a)² = a² + b² - 2 a b
+apart-up : (a b : ℕ) → a ≤ b → (b - a) * (b - a) + 2 * (a * b) ≡ a * a + b * b
+apart-up a b h =
+    let e : a + (b - a) ≡ b = omega arith in
+    rw e at (go (b - a))
+  where
+    go : (k : ℕ) → k * k + 2 * (a * (a + k)) ≡ a * a + (a + k) * (a + k)
+    go k = omega (arith, mul-add a a k, add-mul a k (a + k), mul-add k a k, mul-comm k a)
+
+sq-apart : (a b : ℕ) → sqDiff a b + 2 * (a * b) ≡ a * a + b * b
+sq-apart a b = go (leb a b) refl
+  where
+    go : (t : Bool) → leb a b ≡ t → sqDiff a b + 2 * (a * b) ≡ a * a + b * b
+    go true e = rw (sq-up a b (leb-true a b e)) (apart-up a b (leb-true a b e))
+    go false e =
+        let h : b ≤ a = omega (arith, leb-false a b e) in
+        omega (arith, sq-down a b h, apart-up b a h, mul-comm a b)
+
+-- the distance by the two lengths and the product of the two
+pub dist-norms : (x c : Rgb) → distSq x c + 2 * (x .r * c .r + x .g * c .g + x .b * c .b) ≡ norm x + norm c
+unfolding distSq norm
+dist-norms x c = omega (arith, sq-apart (x .r) (c .r), sq-apart (x .g) (c .g), sq-apart (x .b) (c .b))
+
+-- so a key is computed with one product
+pub key-is : (x c : Rgb) (j : ℕ) → Below 256 x → keyOf x c j + 16 * (x .r * c .r + x .g * c .g + x .b * c .b) ≡ (norm c + 195075) * 8 + j
+unfolding keyOf raise
+key-is x c j h = omega (arith, dist-norms x c, norm-byte x h)
+
+-- and it is small
+pub key-small : (x c : Rgb) (j : ℕ) → Below 256 x → Below 256 c → j < 8 → keyOf x c j < 2 ^ 22
+unfolding keyOf raise
+key-small x c j h k l = omega (arith, dist-byte x c h k)
+
+-- the lesser of two is below what both are below
+pub lesser-small : (a b n : ℕ) → a < n → b < n → lesserOf a b < n
+lesser-small a b n h k = pick-elim (λ (w : ℕ). w < n) (ltb b a) (λ t. k) (λ t. h)
+
+-- keys that are small at each of sixteen pixels
+pub small-keys : (key : ℕ → ℕ) → ((i : ℕ) → i < 16 → key i < 2 ^ 31) → Small (map key (upFrom 0 16))
+small-keys key h = record { sixteen = refl; below = λ i. go i (ltb i 16) refl }
+  where
+    go : (i : ℕ) (t : Bool) → ltb i 16 ≡ t → getD (map key (upFrom 0 16)) i 0 < 2 ^ 31
+    go i true e = rw (getD-each 0 key 16 i (ltb-true i 16 e)) (h i (ltb-true i 16 e))
+    go i false e = rw (List·getD-eq-default (map key (upFrom 0 16)) 0 {n = i} (ltb-false i 16 e)) (omega arith)

@@ -1,0 +1,60 @@
+-- The rule of the partition table, by one test over the whole table.
+use Prim.Native.Nat.{ℕ, _<_, _^_}
+use native.Mathlib.Omega.{arith}
+use mathlib.Core.Path.{_≡_}
+use mathlib.Core.Bool.{Bool, true}
+use mathlib.Core.List.{List, [], _∷_}
+use lib.Dec.{T, eqb, ltb, eqb→eq, ltb→lt}
+use lib.ListN.{getD}
+use Rattle.bptc.specs.Digits.{onesBelow}
+use Rattle.bptc.specs.Partition.{masks, anchors, maskOf, subsetOf, anchorOf, sizeOf}
+use Rattle.bptc.specs.Rust.Subset2Map.{subset2, texts, PARTITION-SET-2}
+use Rattle.bptc.proofs.Tables.{tested, allTrue, each-true}
+
+-- The table is the Rust's texts, pixel 0 lies in subset 0, and the anchor, another pixel, in subset 1, which has from 3 to 13 pixels.
+pub record Placed (part : ℕ) : Type 0 where
+  pub text-mask : PARTITION-SET-2 part .subset-indexes ≡ maskOf part
+  pub text-anchor : PARTITION-SET-2 part .fixup-index-2 ≡ anchorOf part
+  pub mask : maskOf part < 2 ^ 16
+  pub first : subsetOf part 0 ≡ 0
+  pub anchor : subsetOf part (anchorOf part) ≡ 1
+  pub inside : anchorOf part < 16
+  pub apart : 0 < anchorOf part
+  pub some : 2 < sizeOf part
+  pub few : sizeOf part < 14
+
+-- the tests of a partition, one for each field
+abbrev tests : ℕ → List Bool
+tests p =
+    eqb (PARTITION-SET-2 p .subset-indexes) (maskOf p)
+    ∷ eqb (PARTITION-SET-2 p .fixup-index-2) (anchorOf p)
+    ∷ ltb (maskOf p) (2 ^ 16)
+    ∷ eqb (subsetOf p 0) 0
+    ∷ eqb (subsetOf p (anchorOf p)) 1
+    ∷ ltb (anchorOf p) 16
+    ∷ ltb 0 (anchorOf p)
+    ∷ ltb 2 (sizeOf p)
+    ∷ ltb (sizeOf p) 14
+    ∷ []
+
+-- every partition
+pub placed : (part : ℕ) → part < 64 → Placed part
+unfolding PARTITION-SET-2 subset2 texts subsetOf anchorOf maskOf sizeOf masks anchors onesBelow
+placed part h =
+    let holds : (i : ℕ) → T (getD (tests part) i true) = each-true (tests part) (tested (λ (p : ℕ). allTrue (tests p)) 64 tt part h) in
+    record {
+      text-mask = eqb→eq _ _ (holds 0);
+      text-anchor = eqb→eq _ _ (holds 1);
+      mask = ltb→lt _ _ (holds 2);
+      first = eqb→eq _ _ (holds 3);
+      anchor = eqb→eq _ _ (holds 4);
+      inside = ltb→lt _ _ (holds 5);
+      apart = ltb→lt _ _ (holds 6);
+      some = ltb→lt _ _ (holds 7);
+      few = ltb→lt _ _ (holds 8);
+    }
+
+-- there are two subsets
+pub subset-two : (part i : ℕ) → subsetOf part i < 2
+unfolding subsetOf
+subset-two part i = omega arith

@@ -1,0 +1,15 @@
+pub mod Tests
+pub mod Rows
+pub mod Least
+pub mod Digits
+pub mod Bytes
+pub mod Mode
+pub mod Partition
+pub mod Colour
+pub mod Shown
+pub mod Palette
+pub mod Nearest
+pub mod Pixels
+pub mod Closest
+pub mod Keys
+pub mod Rust

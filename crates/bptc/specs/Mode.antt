@@ -1,0 +1,29 @@
+-- What tells one mode from another: its widths and its weights.
+use Prim.Native.Nat.{ℕ, _-_, _^_}
+use mathlib.Core.List.{List, [], _∷_}
+use lib.Dec.{eqb}
+use Rattle.bptc.specs.Tests.{pick}
+
+-- the widths have the names of the constants of `Mode1` and `Mode3`; the weights are the chapter's, in parts of 64
+pub record Mode : Type 0 where
+  pub number : ℕ
+  pub channelBits : ℕ
+  pub indexBits : ℕ
+  pub pBits : ℕ
+  pub weights : List ℕ
+
+-- mode 1: six bits, one p-bit for each subset, indices of three bits
+abbrev pub mode1 : Mode
+mode1 = record { number = 1; channelBits = 6; indexBits = 3; pBits = 2; weights = 0 ∷ 9 ∷ 18 ∷ 27 ∷ 37 ∷ 46 ∷ 55 ∷ 64 ∷ [] }
+
+-- mode 3: seven bits, one p-bit for each endpoint, indices of two bits
+abbrev pub mode3 : Mode
+mode3 = record { number = 3; channelBits = 7; indexBits = 2; pBits = 4; weights = 0 ∷ 21 ∷ 43 ∷ 64 ∷ [] }
+
+-- the mode of a number that is 1 or 3
+abbrev pub modeNumbered : ℕ → Mode
+modeNumbered n = pick (eqb n 1) mode1 mode3
+
+-- the largest index
+unfoldable pub largest : Mode → ℕ
+largest m = 2 ^ m .indexBits - 1

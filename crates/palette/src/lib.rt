@@ -1,0 +1,32 @@
+// The lowest layer of code for BC7 blocks in modes 1 and 3: partitions, shown colours, palettes, distances and nearest indices.
+pub mod colour;
+pub mod palettes;
+pub mod pixels;
+pub mod search;
+pub mod table;
+
+// Mode 1: one p-bit for each subset.
+pub struct Mode1;
+
+// Mode 3: one p-bit for each endpoint.
+pub struct Mode3;
+
+impl Mode1 {
+    pub const CHANNEL_BITS: u32 = 6;
+
+    pub const INDEX_BITS: u32 = 3;
+
+    pub const P_BITS: u32 = 2;
+
+    pub const COLOURS: usize = 1 << Self::INDEX_BITS;
+}
+
+impl Mode3 {
+    pub const CHANNEL_BITS: u32 = 7;
+
+    pub const INDEX_BITS: u32 = 2;
+
+    pub const P_BITS: u32 = 4;
+
+    pub const COLOURS: usize = 1 << Self::INDEX_BITS;
+}

@@ -1,0 +1,97 @@
+// The palettes of a block, from its stored endpoints and p-bits.
+ghost use mathlib.Core.Path.{_≡_};
+ghost use Prim.Native.Nat.{ℕ, _^_, _<_, _≤_};
+ghost use mathlib.Core.List.{map};
+ghost use lib.ListN.{getD};
+ghost use Rattle.bptc.specs.Rows.{upFrom};
+ghost use Rattle.bptc.specs.Mode.{mode1, mode3};
+ghost use Rattle.bptc.specs.Colour.{black, Below};
+ghost use Rattle.bptc.specs.Shown.{Stored, endShownBy};
+ghost use Rattle.bptc.specs.Palette.{blendedRows, palettes};
+use crate::Mode1;
+use crate::Mode3;
+use crate::colour::interpolate_rgb;
+use crate::colour::p_promote;
+use bptc::Rgb;
+
+// The weights at indices of two bits, in parts of 256.
+pub const WEIGHTS_2: [u16; 8] = [0, 84, 172, 256, 0, 0, 0, 0];
+
+// At indices of three bits.
+pub const WEIGHTS_3: [u16; 8] = [0, 36, 72, 108, 148, 184, 220, 256];
+
+// The colour that endpoint k shows, by the widths of a mode.
+fn end_shown(bits: u32, p_bits: u32, ends: [Rgb; 4], p: u8, k: usize) -> Rgb
+    requires wide { ⌜ 3 ≤ bits ⌝ }
+    requires narrow { ⌜ bits ≤ 7 ⌝ }
+    requires most { ⌜ «p_bits» ≤ 4 ⌝ }
+    requires four { ⌜ k < 4 ⌝ }
+    requires channels { ⌜ Below (2 ^ bits) (getD ends k black) ⌝ }
+    ensures { λ r. ⌜ r ≡ endShownBy bits «p_bits» ends p k ⌝ }
+{
+    let c = ends[k];
+    let i = (k as u32) * p_bits / 4;
+    p_promote(bits, c, (p >> i) % 2)
+}
+
+// The palettes between e[0] and e[1] and between e[2] and e[3], a row of eight for each: as many colours as the mode has, then black.
+// Requires no more colours than a row has, and weights in parts of 256.
+pub fn rows(weights: &[u16; 8], colours: usize, e: [Rgb; 4]) -> [[Rgb; 8]; 2]
+    requires few { ⌜ colours ≤ 8 ⌝ }
+    requires light { ⌜ ((k : ℕ) → k < colours → getD (now weights) k 0 ≤ 256) ⌝ }
+    ensures { λ r. ⌜ r ≡ blendedRows (now (weights .entry)) colours e ⌝ }
+{
+    let a = e[0];
+    let b = e[1];
+    let c = e[2];
+    let d = e[3];
+    let none = Rgb { r: 0, g: 0, b: 0 };
+    let row = [none; 8];
+    let mut out = [row; 2];
+    let mut k: usize = 0;
+    while k < colours {
+        let w = weights[k];
+        out[0][k] = interpolate_rgb(w, a, b);
+        out[1][k] = interpolate_rgb(w, c, d);
+        k += 1;
+    }
+    out
+}
+
+// The colours that the four endpoints show, by the widths of a mode.
+fn ends_shown(bits: u32, p_bits: u32, ends: [Rgb; 4], p: u8) -> [Rgb; 4]
+    requires wide { ⌜ 3 ≤ bits ⌝ }
+    requires narrow { ⌜ bits ≤ 7 ⌝ }
+    requires most { ⌜ «p_bits» ≤ 4 ⌝ }
+    requires channels { ⌜ ((k : ℕ) → k < 4 → Below (2 ^ bits) (getD ends k black)) ⌝ }
+    ensures { λ r. ⌜ r ≡ map (endShownBy bits «p_bits» ends p) (upFrom 0 4) ⌝ }
+{
+    [
+        end_shown(bits, p_bits, ends, p, 0),
+        end_shown(bits, p_bits, ends, p, 1),
+        end_shown(bits, p_bits, ends, p, 2),
+        end_shown(bits, p_bits, ends, p, 3),
+    ]
+}
+
+impl Mode1 {
+    // Both palettes, a row of eight colours for each subset. Requires that the endpoints are within the mode's width.
+    pub fn palettes(ends: [Rgb; 4], p: u8) -> [[Rgb; 8]; 2]
+        requires { ⌜ Stored mode1 ends ⌝ }
+        ensures { λ r. ⌜ r ≡ palettes mode1 ends p ⌝ }
+    {
+        let shown = ends_shown(Self::CHANNEL_BITS, Self::P_BITS, ends, p);
+        rows(&WEIGHTS_3, Self::COLOURS, shown)
+    }
+}
+
+impl Mode3 {
+    // Both palettes, four colours and black in each row. Requires that the endpoints are within the mode's width.
+    pub fn palettes(ends: [Rgb; 4], p: u8) -> [[Rgb; 8]; 2]
+        requires { ⌜ Stored mode3 ends ⌝ }
+        ensures { λ r. ⌜ r ≡ palettes mode3 ends p ⌝ }
+    {
+        let shown = ends_shown(Self::CHANNEL_BITS, Self::P_BITS, ends, p);
+        rows(&WEIGHTS_2, Self::COLOURS, shown)
+    }
+}

@@ -1,0 +1,51 @@
+#!/usr/bin/env python3
+"""Prints what palette_checks must print, from the chapter's rules and the partition texts of the Rust.
+
+python3 expected.py BCN_DATA.RS > stdout, where BCN_DATA.RS is src/bcn_data.rs of image-dds.
+"""
+import re
+import sys
+
+TEXTS = re.findall(r'subset2\(\*b"([01-]{17})"\)', open(sys.argv[1]).read())
+WEIGHTS = {4: (0, 21, 43, 64), 8: (0, 9, 18, 27, 37, 46, 55, 64)}
+PIXELS = [tuple((i * 53 + i // 3 * 29) % 256 for i in range(3 * k, 3 * k + 3)) for k in range(16)]
+ENDS1 = ((3, 60, 17), (55, 8, 40), (20, 21, 22), (63, 0, 33))
+ENDS3 = ((3, 120, 17), (110, 8, 40), (20, 21, 22), (127, 0, 99))
+
+
+def shown(bits, e, p):
+    """The byte of a stored channel: the p-bit below it, and the top bits again below both."""
+    n = bits + 1
+    v = 2 * e + p
+    return v << (8 - n) | v >> (2 * n - 8)
+
+
+def row(colours, a, b):
+    """The palette between two shown colours, in parts of 64."""
+    return [tuple(((64 - w) * x + w * y + 32) >> 6 for x, y in zip(a, b)) for w in WEIGHTS[colours]]
+
+
+def search(bits, colours, ends, p_bits, subsets):
+    """For each subset the indices of its pixels, 0 for each other, and its error."""
+    both = [tuple(shown(bits, e, p) for e in end) for end, p in zip(ends, p_bits)]
+    for s in (0, 1):
+        colour = row(colours, both[2 * s], both[2 * s + 1])
+        indices, error = [0] * 16, 0
+        for i, pixel in enumerate(PIXELS):
+            if subsets[i] == s:
+                apart = [sum((x - y) ** 2 for x, y in zip(pixel, c)) for c in colour]
+                indices[i] = apart.index(min(apart))
+                error += min(apart)
+        print(''.join(map(str, indices)), error)
+
+
+for e, p in ((63, 1), (63, 0), (0, 1)):
+    print(shown(6, e, p))
+for colours in (4, 8):
+    print(''.join(f'{c[0]} ' for c in row(colours, (0,) * 3, (255,) * 3)))
+assert len(TEXTS) == 64
+for part, text in enumerate(TEXTS):
+    subsets = [int(d) for d in text if d != '-']
+    print(''.join(map(str, subsets)), sum(subsets), subsets.index(1), text.index('-'))
+    search(6, 8, ENDS1, [part >> s & 1 for s in (0, 0, 1, 1)], subsets)
+    search(7, 4, ENDS3, [part >> k & 1 for k in range(4)], subsets)
