@@ -10,22 +10,27 @@ use lib.ListN.{getD, List·getD-eq-default}
 use borrow.Author.Tests.{leb-true, leb-false, ltb-true, ltb-false}
 use Rattle.bptc.specs.declared.Rgb.{Rgb}
 use Rattle.bptc.specs.Rows.{upFrom}
-use Rattle.bptc.specs.Colour.{Below, sqDiff, distSq, norm}
+use Rattle.bptc.specs.Colour.{Below, sqDiff, distSq, dot, norm}
 use Rattle.bptc.specs.Pixels.{pixelOf}
 use Rattle.bptc.specs.Keys.{Small, raise, keyOf, lesserOf}
 use Rattle.bptc.proofs.Tests.{pick-elim}
 use Rattle.bptc.proofs.Rows.{getD-each}
-use Rattle.bptc.proofs.ColourBounds.{sq-up, sq-down, square-byte, dist-byte}
+use Rattle.bptc.proofs.ColourBounds.{sq-up, sq-down, product-byte, dist-byte}
 
 -- a pixel has bytes for channels, whatever the number
 pub pixel-byte : (x : ℕ) → Below 256 (pixelOf x)
 unfolding pixelOf
 pixel-byte x = record { r = omega arith; g = omega arith; b = omega arith }
 
--- the greatest squared length
+-- the greatest product
+pub dot-byte : (c d : Rgb) → Below 256 c → Below 256 d → dot c d ≤ 195075
+unfolding dot
+dot-byte c d h k = omega (arith, product-byte _ _ (h .r) (k .r), product-byte _ _ (h .g) (k .g), product-byte _ _ (h .b) (k .b))
+
+-- and squared length
 pub norm-byte : (c : Rgb) → Below 256 c → norm c ≤ 195075
 unfolding norm
-norm-byte c h = omega (arith, square-byte (c .r) (omega (arith, h .r)), square-byte (c .g) (omega (arith, h .g)), square-byte (c .b) (omega (arith, h .b)))
+norm-byte c h = dot-byte c c h h
 
 -- (b - a)² = a² + b² - 2 a b
 apart-up : (a b : ℕ) → a ≤ b → (b - a) * (b - a) + 2 * (a * b) ≡ a * a + b * b
@@ -46,12 +51,12 @@ sq-apart a b = go (leb a b) refl
         omega (arith, sq-down a b h, apart-up b a h, mul-comm a b)
 
 -- the distance by the two lengths and the product of the two
-pub dist-norms : (x c : Rgb) → distSq x c + 2 * (x .r * c .r + x .g * c .g + x .b * c .b) ≡ norm x + norm c
-unfolding distSq norm
+pub dist-norms : (x c : Rgb) → distSq x c + 2 * dot x c ≡ norm x + norm c
+unfolding distSq norm dot
 dist-norms x c = omega (arith, sq-apart (x .r) (c .r), sq-apart (x .g) (c .g), sq-apart (x .b) (c .b))
 
 -- so a key is computed with one product
-pub key-is : (x c : Rgb) (j : ℕ) → Below 256 x → keyOf x c j + 16 * (x .r * c .r + x .g * c .g + x .b * c .b) ≡ (norm c + 195075) * 8 + j
+pub key-is : (x c : Rgb) (j : ℕ) → Below 256 x → keyOf x c j + 16 * dot x c ≡ (norm c + 195075) * 8 + j
 unfolding keyOf raise
 key-is x c j h = omega (arith, dist-norms x c, norm-byte x h)
 

@@ -41,6 +41,10 @@ sqDiff a b = (a - b) * (a - b) + (b - a) * (b - a)
 unfoldable pub distSq : Rgb → Rgb → ℕ
 distSq c d = sqDiff (c .r) (d .r) + sqDiff (c .g) (d .g) + sqDiff (c .b) (d .b)
 
+-- the product of two colours, channel by channel in sum
+unfoldable pub dot : Rgb → Rgb → ℕ
+dot c d = c .r * d .r + c .g * d .g + c .b * d .b
+
 -- the squared length of a colour
 unfoldable pub norm : Rgb → ℕ
-norm c = c .r * c .r + c .g * c .g + c .b * c .b
+norm c = dot c c

@@ -1,7 +1,7 @@
 // A colour's way from its stored channels to the shown ones, between two, and the distance of two.
 ghost use mathlib.Core.Path.{_≡_};
-ghost use Prim.Native.Nat.{_^_, _<_, _≤_};
-ghost use Rattle.bptc.specs.Colour.{Below, each, both, sqDiff, distSq};
+ghost use Prim.Native.Nat.{_*_, _^_, _<_, _≤_};
+ghost use Rattle.bptc.specs.Colour.{Below, each, both, sqDiff, distSq, dot};
 ghost use Rattle.bptc.specs.Shown.{pShown};
 ghost use Rattle.bptc.specs.Palette.{blend};
 use bptc::Rgb;
@@ -69,6 +69,13 @@ pub fn interpolate_rgb(weight: u16, e0: Rgb, e1: Rgb) -> Rgb
     }
 }
 
+// The product of two channels.
+fn product(a: u8, b: u8) -> u32
+    ensures { λ r. ⌜ (r ≡ a * b) × (r ≤ 65025) ⌝ }
+{
+    wide(a) * wide(b)
+}
+
 // The square of the difference of two channels.
 fn sq_diff(a: u8, b: u8) -> u32
     ensures { λ r. ⌜ (r ≡ sqDiff a b) × (r ≤ 65025) ⌝ }
@@ -87,4 +94,11 @@ pub fn dist_sq(a: Rgb, b: Rgb) -> u32
     ensures { λ r. ⌜ (r ≡ distSq a b) × (r ≤ 195075) ⌝ }
 {
     sq_diff(a.r, b.r) + sq_diff(a.g, b.g) + sq_diff(a.b, b.b)
+}
+
+// The product of two colours, channel by channel in sum.
+pub(crate) fn dot(a: Rgb, b: Rgb) -> u32
+    ensures { λ r. ⌜ (r ≡ dot a b) × (r ≤ 195075) ⌝ }
+{
+    product(a.r, b.r) + product(a.g, b.g) + product(a.b, b.b)
 }

@@ -7,7 +7,7 @@ ghost use Rattle.bptc.specs.Rows.{upFrom};
 ghost use Rattle.bptc.specs.Mode.{mode1, mode3};
 ghost use Rattle.bptc.specs.Colour.{black, Below};
 ghost use Rattle.bptc.specs.Shown.{Stored, endShownBy};
-ghost use Rattle.bptc.specs.Palette.{blendedRows, palettes};
+ghost use Rattle.bptc.specs.Palette.{blendedRow, blendedRows, palettes};
 use crate::Mode1;
 use crate::Mode3;
 use crate::colour::interpolate_rgb;
@@ -34,28 +34,33 @@ fn end_shown(bits: u32, p_bits: u32, ends: [Rgb; 4], p: u8, k: usize) -> Rgb
     p_promote(bits, c, (p >> i) % 2)
 }
 
-// The palettes between e[0] and e[1] and between e[2] and e[3], a row of eight for each: as many colours as the mode has, then black.
+// The first colours between two that are shown, and black after them.
+fn row(weights: &[u16; 8], colours: usize, a: Rgb, b: Rgb) -> [Rgb; 8]
+    requires few { ⌜ colours ≤ 8 ⌝ }
+    requires light { ⌜ ((k : ℕ) → k < colours → getD (now weights) k 0 ≤ 256) ⌝ }
+    ensures { λ r. ⌜ r ≡ blendedRow (now (weights .entry)) colours a b ⌝ }
+{
+    let none = Rgb { r: 0, g: 0, b: 0 };
+    let mut out = [none; 8];
+    let mut k: usize = 0;
+    while k < colours {
+        out[k] = interpolate_rgb(weights[k], a, b);
+        k += 1;
+    }
+    out
+}
+
+// The palette between e[0] and e[1] and that between e[2] and e[3]: as many colours as the mode has, then black.
 // Requires no more colours than a row has, and weights in parts of 256.
 pub fn rows(weights: &[u16; 8], colours: usize, e: [Rgb; 4]) -> [[Rgb; 8]; 2]
     requires few { ⌜ colours ≤ 8 ⌝ }
     requires light { ⌜ ((k : ℕ) → k < colours → getD (now weights) k 0 ≤ 256) ⌝ }
     ensures { λ r. ⌜ r ≡ blendedRows (now (weights .entry)) colours e ⌝ }
 {
-    let a = e[0];
-    let b = e[1];
-    let c = e[2];
-    let d = e[3];
-    let none = Rgb { r: 0, g: 0, b: 0 };
-    let row = [none; 8];
-    let mut out = [row; 2];
-    let mut k: usize = 0;
-    while k < colours {
-        let w = weights[k];
-        out[0][k] = interpolate_rgb(w, a, b);
-        out[1][k] = interpolate_rgb(w, c, d);
-        k += 1;
-    }
-    out
+    [
+        row(weights, colours, e[0], e[1]),
+        row(weights, colours, e[2], e[3]),
+    ]
 }
 
 // The colours that the four endpoints show, by the widths of a mode.

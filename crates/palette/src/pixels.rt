@@ -7,7 +7,9 @@ ghost use Rattle.bptc.specs.Tests.{pick};
 ghost use Rattle.bptc.specs.Colour.{black, coloursOf};
 ghost use Rattle.bptc.specs.Pixels.{pixelWord, pixelOf, pixelWords, memberAt, membersOf};
 ghost use Rattle.bptc.specs.Keys.{raise, raisesOf};
+use crate::colour::dot;
 use crate::colour::wide;
+use bptc::Rgb;
 
 const BITS: [u32; 16] = [
     1,
@@ -77,14 +79,23 @@ pub fn members(mask: u16, subset: u8) -> [u32; 16]
     out
 }
 
+// The pixel that a number stands for.
+pub(crate) fn pixel(x: u32) -> Rgb
+    ensures { λ r. ⌜ r ≡ pixelOf x ⌝ }
+{
+    Rgb {
+        r: (x % 256) as u8,
+        g: (x / 256 % 256) as u8,
+        b: (x / 65536 % 256) as u8,
+    }
+}
+
 // What a pixel's keys are raised by.
 fn raise(x: u32) -> u32
     ensures { λ r. ⌜ (r ≡ raise (pixelOf x)) × (r ≤ 195075) ⌝ }
 {
-    let r = x % 256;
-    let g = x / 256 % 256;
-    let b = x / 65536 % 256;
-    195075 - (r * r + g * g + b * b)
+    let c = pixel(x);
+    195075 - dot(c, c)
 }
 
 // A figure where the pixel is marked, and 0 elsewhere.

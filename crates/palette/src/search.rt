@@ -11,8 +11,9 @@ ghost use Rattle.bptc.specs.Closest.{closestOf};
 ghost use Rattle.bptc.specs.Keys.{Small, keyOf, lesserOf, firstKey, nextKey, keySum, gathered, raiseIn};
 use crate::Mode1;
 use crate::Mode3;
-use crate::colour::wide;
+use crate::colour::dot;
 use crate::pixels::marked;
+use crate::pixels::pixel;
 use bptc::Closest;
 use bptc::Rgb;
 
@@ -21,11 +22,7 @@ fn key(c: Rgb, j: u32, x: u32) -> u32
     requires { ⌜ j < 8 ⌝ }
     ensures { λ r. ⌜ (r ≡ keyOf (pixelOf x) c j) × (r < 2 ^ 22) ⌝ }
 {
-    let r = wide(c.r);
-    let g = wide(c.g);
-    let b = wide(c.b);
-    (r * r + g * g + b * b + 195075) * 8 + j
-        - (x % 256 * r + x / 256 % 256 * g + x / 65536 % 256 * b) * 16
+    (dot(c, c) + 195075) * 8 + j - dot(pixel(x), c) * 16
 }
 
 // The lesser of two keys.
