@@ -1,4 +1,4 @@
--- What the palette's laws ask of a mode, by one test that antt computes: its weights are symmetric, and it shows bytes.
+-- What the palette's laws ask of a mode: by one test that antt computes its weights are symmetric, and its channels have a width that shows bytes.
 use Prim.Native.Nat.{ℕ, suc, _-_, _≤_, _<_}
 use native.Mathlib.Omega.{arith}
 use mathlib.Core.Path.{_≡_}

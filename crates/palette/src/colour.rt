@@ -6,6 +6,9 @@ ghost use Rattle.bptc.specs.Shown.{pShown};
 ghost use Rattle.bptc.specs.Palette.{blend};
 use bptc::Rgb;
 
+// The greatest distance between two colours.
+pub const GREATEST: u32 = 3 * 255 * 255;
+
 // A byte as a number that may be subtracted and squared.
 pub(crate) fn wide(x: u8) -> u32
     ensures { λ r. ⌜ (r ≡ x) × (r < 256) ⌝ }

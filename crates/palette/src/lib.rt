@@ -1,4 +1,7 @@
 // The lowest layer of code for BC7 blocks in modes 1 and 3: partitions, shown colours, palettes, distances and nearest indices.
+pub use bptc::Closest;
+pub use bptc::Rgb;
+
 pub mod colour;
 pub mod palettes;
 pub mod pixels;

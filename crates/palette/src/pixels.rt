@@ -7,10 +7,12 @@ ghost use Rattle.bptc.specs.Tests.{pick};
 ghost use Rattle.bptc.specs.Colour.{black, coloursOf};
 ghost use Rattle.bptc.specs.Pixels.{pixelWord, pixelOf, pixelWords, memberAt, membersOf};
 ghost use Rattle.bptc.specs.Keys.{raise, raisesOf};
+use crate::colour::GREATEST;
 use crate::colour::dot;
 use crate::colour::wide;
 use bptc::Rgb;
 
+// The places of a mask's bits.
 const BITS: [u32; 16] = [
     1,
     2,
@@ -95,7 +97,7 @@ fn raise(x: u32) -> u32
     ensures { λ r. ⌜ (r ≡ raise (pixelOf x)) × (r ≤ 195075) ⌝ }
 {
     let c = pixel(x);
-    195075 - dot(c, c)
+    GREATEST - dot(c, c)
 }
 
 // A figure where the pixel is marked, and 0 elsewhere.

@@ -1,5 +1,5 @@
 // The search of closest_rgb over the pixels of one subset.
-// A pixel's distance to a colour and the colour's index are one number, its key, so that the least key is the lowest index of least distance.
+// A pixel's distance to a colour and the colour's index are one number, a key: the least key has the lowest index of least distance.
 ghost use mathlib.Core.Path.{_≡_};
 ghost use Prim.Native.Nat.{_^_, _≤_, _<_};
 ghost use mathlib.Core.List.{map};
@@ -11,6 +11,7 @@ ghost use Rattle.bptc.specs.Closest.{closestOf};
 ghost use Rattle.bptc.specs.Keys.{Small, keyOf, lesserOf, firstKey, nextKey, keySum, gathered, raiseIn};
 use crate::Mode1;
 use crate::Mode3;
+use crate::colour::GREATEST;
 use crate::colour::dot;
 use crate::pixels::marked;
 use crate::pixels::pixel;
@@ -22,7 +23,7 @@ fn key(c: Rgb, j: u32, x: u32) -> u32
     requires { ⌜ j < 8 ⌝ }
     ensures { λ r. ⌜ (r ≡ keyOf (pixelOf x) c j) × (r < 2 ^ 22) ⌝ }
 {
-    (dot(c, c) + 195075) * 8 + j - dot(pixel(x), c) * 16
+    (dot(c, c) + GREATEST) * 8 + j - dot(pixel(x), c) * 16
 }
 
 // The lesser of two keys.

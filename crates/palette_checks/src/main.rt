@@ -2,11 +2,11 @@
 ghost use mathlib.Core.Path.{_≡_};
 ghost use Prim.Native.Nat.{_<_, _≤_};
 ghost use lib.ListN.{length};
-use bptc::Closest;
-use bptc::Rgb;
 use libc::STDOUT_FILENO;
+use palette::Closest;
 use palette::Mode1;
 use palette::Mode3;
+use palette::Rgb;
 use palette::palettes::WEIGHTS_2;
 use palette::palettes::WEIGHTS_3;
 
