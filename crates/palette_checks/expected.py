@@ -25,7 +25,7 @@ def row(colours, a, b):
     return [tuple(((64 - w) * x + w * y + 32) >> 6 for x, y in zip(a, b)) for w in WEIGHTS[colours]]
 
 
-def search(bits, colours, ends, p_bits, subsets):
+def search(mode, bits, colours, ends, p_bits, subsets):
     """For each subset the indices of its pixels, 0 for each other, and its error."""
     both = [tuple(shown(bits, e, p) for e in end) for end, p in zip(ends, p_bits)]
     for s in (0, 1):
@@ -36,16 +36,16 @@ def search(bits, colours, ends, p_bits, subsets):
                 apart = [sum((x - y) ** 2 for x, y in zip(pixel, c)) for c in colour]
                 indices[i] = apart.index(min(apart))
                 error += min(apart)
-        print(''.join(map(str, indices)), error)
+        print('mode', mode, 'subset', s, ''.join(map(str, indices)), error)
 
 
 for e, p in ((63, 1), (63, 0), (0, 1)):
-    print(shown(6, e, p))
+    print('shown', shown(6, e, p))
 for colours in (4, 8):
-    print(''.join(f'{c[0]} ' for c in row(colours, (0,) * 3, (255,) * 3)))
+    print('palette', ''.join(f'{c[0]} ' for c in row(colours, (0,) * 3, (255,) * 3)))
 assert len(TEXTS) == 64
 for part, text in enumerate(TEXTS):
     subsets = [int(d) for d in text if d != '-']
-    print(''.join(map(str, subsets)), sum(subsets), subsets.index(1), text.index('-'))
-    search(6, 8, ENDS1, [part >> s & 1 for s in (0, 0, 1, 1)], subsets)
-    search(7, 4, ENDS3, [part >> k & 1 for k in range(4)], subsets)
+    print('partition', part, ''.join(map(str, subsets)), sum(subsets), subsets.index(1), text.index('-'))
+    search(1, 6, 8, ENDS1, [part >> s & 1 for s in (0, 0, 1, 1)], subsets)
+    search(3, 7, 4, ENDS3, [part >> k & 1 for k in range(4)], subsets)

@@ -1,4 +1,4 @@
--- Laws of the search's keys: how one is computed, how large it is, and that the least has the lowest index of least distance.
+-- Laws of the search's keys: how one is computed, and that sixteen of them may be compared.
 use Prim.Native.Nat.{ℕ, _+_, _-_, _*_, _^_, _≤_, _<_}
 use native.Mathlib.Nat.{mul-add, add-mul, mul-comm}
 use native.Mathlib.Omega.{arith}
@@ -12,10 +12,9 @@ use Rattle.bptc.specs.declared.Rgb.{Rgb}
 use Rattle.bptc.specs.Rows.{upFrom}
 use Rattle.bptc.specs.Colour.{Below, sqDiff, distSq, dot, norm}
 use Rattle.bptc.specs.Pixels.{pixelOf}
-use Rattle.bptc.specs.Keys.{Small, raise, keyOf, lesserOf}
-use Rattle.bptc.proofs.Tests.{pick-elim}
+use Rattle.bptc.specs.Keys.{Small, raise, keyOf}
 use Rattle.bptc.proofs.Rows.{getD-each}
-use Rattle.bptc.proofs.ColourBounds.{sq-up, sq-down, product-byte, dist-byte}
+use Rattle.bptc.proofs.ColourBounds.{sq-up, sq-down, product-byte}
 
 -- a pixel has bytes for channels, whatever the number
 pub pixel-byte : (x : ℕ) → Below 256 (pixelOf x)
@@ -59,15 +58,6 @@ dist-norms x c = omega (arith, sq-apart (x .r) (c .r), sq-apart (x .g) (c .g), s
 pub key-is : (x c : Rgb) (j : ℕ) → Below 256 x → keyOf x c j + 16 * dot x c ≡ (norm c + 195075) * 8 + j
 unfolding keyOf raise
 key-is x c j h = omega (arith, dist-norms x c, norm-byte x h)
-
--- and it is small
-pub key-small : (x c : Rgb) (j : ℕ) → Below 256 x → Below 256 c → j < 8 → keyOf x c j < 2 ^ 22
-unfolding keyOf raise
-key-small x c j h k l = omega (arith, dist-byte x c h k)
-
--- the lesser of two is below what both are below
-pub lesser-small : (a b n : ℕ) → a < n → b < n → lesserOf a b < n
-lesser-small a b n h k = pick-elim (λ (w : ℕ). w < n) (ltb b a) (λ t. k) (λ t. h)
 
 -- keys that are small at each of sixteen pixels
 pub small-keys : (key : ℕ → ℕ) → ((i : ℕ) → i < 16 → key i < 2 ^ 31) → Small (map key (upFrom 0 16))

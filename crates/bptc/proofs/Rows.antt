@@ -1,11 +1,11 @@
 -- Laws of numbers in a row, and of the list that a function makes of them.
-use Prim.Native.Nat.{ℕ, zero, suc, _+_, _≤_, _<_}
+use Prim.Native.Nat.{ℕ, zero, suc, _+_, _<_}
 use native.Mathlib.Nat.{le-of-suc-le-suc, not-suc-le-zero, add-zero, zero-add, add-suc, suc-add}
 use native.Mathlib.Numerals.{add-one}
 use native.Mathlib.Omega.{arith}
 use mathlib.Core.Path.{_≡_, refl, sym, ap, ap₂, _∙_}
 use mathlib.Core.List.{List, [], _∷_, _++_, map, List·Memᴰ, List·Memᴰ·head, List·Memᴰ·tail, List·Memᴰ·not-nil, Memᴰ·cast, map-append, append-nil, append-assoc}
-use lib.ListN.{length, getD, set, drop, length-map, length-append, length-drop, List·getD-append}
+use lib.ListN.{length, getD, set, drop, length-map, List·getD-append}
 use lib.Seq.{ext-getD, set-at, getD-at, drop-cons, drop-length}
 use Rattle.bptc.specs.Rows.{upFrom, written}
 
@@ -75,11 +75,6 @@ module _ {ℓ} {B : Type ℓ} (d : B) where
 
 -- a list that a loop writes, one place after the other
 module _ {ℓ} {A : Type ℓ} (d : A) (f : ℕ → A) (xs : List A) where
-  -- before the first
-  pub written-none : written f 0 xs ≡ xs
-  unfolding written
-  written-none = refl
-
   -- one more
   pub written-next : (k : ℕ) → k < length xs → set (written f k xs) k (f k) ≡ written f (k + 1) xs
   unfolding written
@@ -92,11 +87,6 @@ module _ {ℓ} {A : Type ℓ} (d : A) (f : ℕ → A) (xs : List A) where
   pub written-all : (n : ℕ) → length xs ≡ n → written f n xs ≡ map f (upFrom 0 n)
   unfolding written
   written-all n e = rw (← e, drop-length, append-nil)
-
-  -- its length
-  pub written-length : (k : ℕ) → k ≤ length xs → length (written f k xs) ≡ length xs
-  unfolding written
-  written-length k h = simp (length-append, length-map, length-upFrom, length-drop) (omega arith)
 
   -- a place that is written
   pub written-at : (k i : ℕ) → i < k → getD (written f k xs) i d ≡ f i

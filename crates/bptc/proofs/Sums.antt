@@ -35,10 +35,6 @@ sum-append (y ∷ ys) x = omega (arith, sum-append ys x)
 pub sumTo-suc : (f : ℕ → ℕ) (k : ℕ) → sumTo f (k + 1) ≡ sumTo f k + f k
 sumTo-suc f k = rw add-one (ap sum (each-suc f k) ∙ sum-append (map f (upFrom 0 k)) (f k))
 
--- at most b at each of the first k
-pub sumTo-most : (f : ℕ → ℕ) (b k : ℕ) → ((i : ℕ) → f i ≤ b) → sumTo f k ≤ k * b
-sumTo-most f b k h = sum-most f b k 0 (λ i l. h i)
-
 module _ (f g : ℕ → ℕ) where
   -- a figure that is no larger at any pixel
   pub pixels-le : ((i : ℕ) → i < 16 → f i ≤ g i) → overPixels f ≤ overPixels g

@@ -10,6 +10,10 @@ use palette::Rgb;
 use palette::palettes::WEIGHTS_2;
 use palette::palettes::WEIGHTS_3;
 
+fn say(text: &[u8]) {
+    io::write_all(STDOUT_FILENO, text);
+}
+
 fn space() {
     io::write_all(STDOUT_FILENO, b" ");
 }
@@ -39,6 +43,7 @@ fn put_shown(e: u8, p: u8)
     requires bit { ⌜ p < 2 ⌝ }
 {
     let c = palette::colour::p_promote(Mode1::CHANNEL_BITS, grey(e), p);
+    say(b"shown ");
     put(c.r as u32);
     line();
 }
@@ -63,7 +68,9 @@ fn put_palettes() {
     let b = grey(255);
     let four = palette::palettes::rows(&WEIGHTS_2, Mode3::COLOURS, [a, b, a, b]);
     let eight = palette::palettes::rows(&WEIGHTS_3, Mode1::COLOURS, [a, b, a, b]);
+    say(b"palette ");
     put_row(four[0], Mode3::COLOURS);
+    say(b"palette ");
     put_row(eight[1], Mode1::COLOURS);
 }
 
@@ -182,6 +189,24 @@ fn put_closest(found: Closest) {
     line();
 }
 
+// A partition, and the search over both its subsets in both modes.
+fn put_searches(partition: usize)
+    requires { ⌜ partition < 64 ⌝ }
+{
+    say(b"partition ");
+    put(partition as u32);
+    space();
+    put_partition(partition);
+    say(b"mode 1 subset 0 ");
+    put_closest(find(1, partition, 0));
+    say(b"mode 1 subset 1 ");
+    put_closest(find(1, partition, 1));
+    say(b"mode 3 subset 0 ");
+    put_closest(find(3, partition, 0));
+    say(b"mode 3 subset 1 ");
+    put_closest(find(3, partition, 1));
+}
+
 fn main() {
     put_shown(63, 1);
     put_shown(63, 0);
@@ -189,11 +214,7 @@ fn main() {
     put_palettes();
     let mut partition: usize = 0;
     while partition < 64 {
-        put_partition(partition);
-        put_closest(find(1, partition, 0));
-        put_closest(find(1, partition, 1));
-        put_closest(find(3, partition, 0));
-        put_closest(find(3, partition, 1));
+        put_searches(partition);
         partition += 1;
     }
 }

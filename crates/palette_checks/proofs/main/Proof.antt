@@ -25,32 +25,8 @@ put-palettes-requires c κs = search needs
 loop-holds : tie.Need-loop-holds Inv-loop μ-loop
 loop-holds c = search needs
 
-put-partition-requires : tie.Need-put-partition-requires Inv-loop μ-loop
-put-partition-requires c κs = search needs
-
-find-requires : tie.Need-find-requires Inv-loop μ-loop
-find-requires c κs = search needs
-
-put-closest-requires : tie.Need-put-closest-requires Inv-loop μ-loop
-put-closest-requires c κs = search needs
-
-find-requires-2 : tie.Need-find-requires-2 Inv-loop μ-loop
-find-requires-2 c κs = search needs
-
-put-closest-requires-2 : tie.Need-put-closest-requires-2 Inv-loop μ-loop
-put-closest-requires-2 c κs = search needs
-
-find-requires-3 : tie.Need-find-requires-3 Inv-loop μ-loop
-find-requires-3 c κs = search needs
-
-put-closest-requires-3 : tie.Need-put-closest-requires-3 Inv-loop μ-loop
-put-closest-requires-3 c κs = search needs
-
-find-requires-4 : tie.Need-find-requires-4 Inv-loop μ-loop
-find-requires-4 c κs = search needs
-
-put-closest-requires-4 : tie.Need-put-closest-requires-4 Inv-loop μ-loop
-put-closest-requires-4 c κs = search needs
+put-searches-requires : tie.Need-put-searches-requires Inv-loop μ-loop
+put-searches-requires c κs = search needs
 
 add-partition : tie.Need-add-partition Inv-loop μ-loop
 add-partition c = search needs
@@ -75,15 +51,7 @@ main-spec =
     put-shown-requires-3
     put-palettes-requires
     loop-holds
-    put-partition-requires
-    find-requires
-    put-closest-requires
-    find-requires-2
-    put-closest-requires-2
-    find-requires-3
-    put-closest-requires-3
-    find-requires-4
-    put-closest-requires-4
+    put-searches-requires
     add-partition
     loop-less
     loop-again

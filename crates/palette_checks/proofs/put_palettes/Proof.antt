@@ -21,11 +21,23 @@ rows-requires-2 : tie.Need-rows-requires-2
 unfolding largest
 rows-requires-2 c κs = (search needs, row-light mode1 shades1 (omega arith))
 
+slice-aggregate-say : tie.Need-slice-aggregate-say
+slice-aggregate-say c = search needs
+
+say-requires : tie.Need-say-requires
+say-requires c κs = search needs
+
 array-copy-out-put-row : tie.Need-array-copy-out-put-row
 array-copy-out-put-row c = search needs
 
 put-row-requires : tie.Need-put-row-requires
 put-row-requires c κs = search needs
+
+slice-aggregate-say-2 : tie.Need-slice-aggregate-say-2
+slice-aggregate-say-2 c = search needs
+
+say-requires-2 : tie.Need-say-requires-2
+say-requires-2 c κs = search needs
 
 array-copy-out-put-row-2 : tie.Need-array-copy-out-put-row-2
 array-copy-out-put-row-2 c = search needs
@@ -44,8 +56,12 @@ put-palettes-spec =
     grey-requires-2
     rows-requires
     rows-requires-2
+    slice-aggregate-say
+    say-requires
     array-copy-out-put-row
     put-row-requires
+    slice-aggregate-say-2
+    say-requires-2
     array-copy-out-put-row-2
     put-row-requires-2
     returns)

@@ -11,6 +11,12 @@ p-promote-requires c κs =
     let e = c .before .pre .0 in
     (search needs, (search needs, (rw (c .grey .ensures) record { r = e; g = e; b = e }, search needs)))
 
+slice-aggregate-say : tie.Need-slice-aggregate-say
+slice-aggregate-say c = search needs
+
+say-requires : tie.Need-say-requires
+say-requires c κs = search needs
+
 cast-put : tie.Need-cast-put
 cast-put c = search needs
 
@@ -26,4 +32,12 @@ returns c = search needs
 pub put-shown-spec : {M : Type 1} → statement M
 put-shown-spec =
     tie.close
-    (tie.spec grey-requires p-promote-requires cast-put put-requires line-requires returns)
+    (tie.spec
+    grey-requires
+    p-promote-requires
+    slice-aggregate-say
+    say-requires
+    cast-put
+    put-requires
+    line-requires
+    returns)
