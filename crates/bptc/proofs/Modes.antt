@@ -4,16 +4,11 @@ use native.Mathlib.Omega.{arith}
 use mathlib.Core.Path.{_≡_}
 use mathlib.Core.Bool.{Bool}
 use lib.Dec.{T, eqb, leb, eqb→eq, leb→le}
-use lib.ListN.{getD}
 use Rattle.bptc.specs.Tests.{and, all}
 use Rattle.bptc.specs.Rows.{upFrom}
-use Rattle.bptc.specs.Mode.{Mode, mode1, mode3, largest}
+use Rattle.bptc.specs.Mode.{Mode, mode1, mode3, weight, largest}
 use Rattle.bptc.proofs.Tests.{and-left, and-right}
 use Rattle.bptc.proofs.Tables.{tested}
-
--- the weight at index i
-abbrev pub weight : Mode → ℕ → ℕ
-weight m i = getD (m .weights) i 0
 
 -- the weights lie in 64 and are mirrored, and a stored channel has from 3 to 7 bits
 pub record Shades (m : Mode) : Type 0 where

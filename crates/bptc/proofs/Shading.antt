@@ -8,13 +8,13 @@ use lib.Arith.{sub-sub-self}
 use lib.ListN.{getD, replicate}
 use Rattle.bptc.specs.declared.Rgb.{Rgb}
 use Rattle.bptc.specs.Rows.{upFrom, written}
-use Rattle.bptc.specs.Mode.{Mode, largest}
+use Rattle.bptc.specs.Mode.{Mode, weight, largest}
 use Rattle.bptc.specs.Colour.{black, both, Below}
 use Rattle.bptc.specs.Shown.{pBit, pShown, endShownBy, endShown, Stored}
 use Rattle.bptc.specs.Palette.{between, blend, shade, paletteAt, row, rowWeights, blendedRow, blendedRows, palettes}
 use Rattle.bptc.proofs.Rows.{getD-each, written-at, written-same}
 use Rattle.bptc.proofs.ColourBounds.{rgb-eq}
-use Rattle.bptc.proofs.Modes.{weight, Shades}
+use Rattle.bptc.proofs.Modes.{Shades}
 use Rattle.bptc.proofs.ShownBytes.{p-shown-byte}
 
 -- interpolate_rgb: the Rust's weights are four times as large

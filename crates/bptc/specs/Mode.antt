@@ -2,6 +2,7 @@
 use Prim.Native.Nat.{ℕ, _-_, _^_}
 use mathlib.Core.List.{List, [], _∷_}
 use lib.Dec.{eqb}
+use lib.ListN.{getD}
 use Rattle.bptc.specs.Tests.{pick}
 
 -- the widths have the names of the constants of `Mode1` and `Mode3`; the weights are the chapter's, in parts of 64
@@ -23,6 +24,10 @@ mode3 = record { number = 3; channelBits = 7; indexBits = 2; pBits = 4; weights 
 -- the mode of a number that is 1 or 3
 abbrev pub modeNumbered : ℕ → Mode
 modeNumbered n = pick (eqb n 1) mode1 mode3
+
+-- the weight at index i: 0 past the largest
+abbrev pub weight : Mode → ℕ → ℕ
+weight m i = getD (m .weights) i 0
 
 -- the largest index
 unfoldable pub largest : Mode → ℕ

@@ -4,7 +4,7 @@ use mathlib.Core.List.{List, map}
 use lib.ListN.{getD, replicate}
 use Rattle.bptc.specs.declared.Rgb.{Rgb}
 use Rattle.bptc.specs.Rows.{upFrom, written}
-use Rattle.bptc.specs.Mode.{Mode, largest}
+use Rattle.bptc.specs.Mode.{Mode, weight, largest}
 use Rattle.bptc.specs.Colour.{black, both}
 use Rattle.bptc.specs.Shown.{endShown}
 
@@ -18,7 +18,7 @@ blend w a b = ((256 - w) * a + w * b + 128) / 256
 
 -- the colour at index i between two that are shown
 unfoldable pub shade : Mode → Rgb → Rgb → ℕ → Rgb
-shade m a b i = both (between (getD (m .weights) i 0)) a b
+shade m a b i = both (between (weight m i)) a b
 
 -- the colour at index i of subset s, at given endpoints and p-bits
 unfoldable pub paletteAt : Mode → List Rgb → ℕ → ℕ → ℕ → Rgb
@@ -30,7 +30,7 @@ row m a b = map (shade m a b) (upFrom 0 (suc (largest m)))
 
 -- a mode's weights in parts of 256, eight of them: 0 past its largest index
 abbrev pub rowWeights : Mode → List ℕ
-rowWeights m = map (λ (i : ℕ). 4 * getD (m .weights) i 0) (upFrom 0 8)
+rowWeights m = map (λ (i : ℕ). 4 * weight m i) (upFrom 0 8)
 
 -- the first n colours by weights in parts of 256, in a row of eight, black after them
 unfoldable pub blendedRow : List ℕ → ℕ → Rgb → Rgb → List Rgb

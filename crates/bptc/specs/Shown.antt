@@ -7,9 +7,13 @@ use Rattle.bptc.specs.Digits.{bit}
 use Rattle.bptc.specs.Mode.{Mode}
 use Rattle.bptc.specs.Colour.{black, each, Below}
 
--- the p-bit of endpoint k in the number that holds them all: bit k / 2 in mode 1, bit k in mode 3
+-- the p-bit of endpoint k in the number that holds them all: bit k / 2 of two, bit k of four
+abbrev pub pBitBy : ℕ → ℕ → ℕ → ℕ
+pBitBy pBits p k = bit p (k * pBits / 4)
+
+-- in a mode
 abbrev pub pBit : Mode → ℕ → ℕ → ℕ
-pBit m p k = bit p (k * m .pBits / 4)
+pBit m p k = pBitBy (m .pBits) p k
 
 -- promote: n bits made eight; they stand on top, and their own top bits again below them
 unfoldable pub widen : ℕ → ℕ → ℕ
@@ -25,7 +29,7 @@ shown m p e = pShown (m .channelBits) p e
 
 -- the colour that endpoint k shows, by the bits of a channel and the number of p-bits
 unfoldable pub endShownBy : ℕ → ℕ → List Rgb → ℕ → ℕ → Rgb
-endShownBy bits pBits ends p k = each (pShown bits (bit p (k * pBits / 4))) (getD ends k black)
+endShownBy bits pBits ends p k = each (pShown bits (pBitBy pBits p k)) (getD ends k black)
 
 -- in a mode
 unfoldable pub endShown : Mode → List Rgb → ℕ → ℕ → Rgb

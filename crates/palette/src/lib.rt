@@ -14,6 +14,7 @@ pub struct Mode1;
 // Mode 3: one p-bit for each endpoint.
 pub struct Mode3;
 
+// The bits of a stored channel, the bits of an index, the number of p-bits, and the colours of a palette.
 impl Mode1 {
     pub const CHANNEL_BITS: u32 = 6;
 
@@ -24,6 +25,7 @@ impl Mode1 {
     pub const COLOURS: usize = 1 << Self::INDEX_BITS;
 }
 
+// The same of mode 3.
 impl Mode3 {
     pub const CHANNEL_BITS: u32 = 7;
 

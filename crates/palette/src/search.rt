@@ -127,7 +127,7 @@ impl Mode1 {
 }
 
 impl Mode3 {
-    // The same over four colours.
+    // The same over four colours. Requires that `raise` is what `raises` gives for these pixels.
     pub fn closest_rgb(
         row: [Rgb; 8],
         pixels: &[u32; 16],

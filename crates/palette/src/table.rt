@@ -90,7 +90,7 @@ const ANCHORS: [u8; 64] = [
     15,
     15,
     15,
-    2,
+    2, // partition 17, whose subset 1 begins at pixel 1
     8,
     2,
     2,

@@ -10,22 +10,27 @@ use palette::Rgb;
 use palette::palettes::WEIGHTS_2;
 use palette::palettes::WEIGHTS_3;
 
+// Writes a text.
 fn say(text: &[u8]) {
     io::write_all(STDOUT_FILENO, text);
 }
 
+// Writes a space.
 fn space() {
     io::write_all(STDOUT_FILENO, b" ");
 }
 
+// Ends a line.
 fn line() {
     io::write_all(STDOUT_FILENO, b"\n");
 }
 
+// Writes a number.
 fn put(n: u32) {
     io::print_decimal(STDOUT_FILENO, n as u64);
 }
 
+// Writes an index.
 fn put_index(n: u8) {
     put(n as u32);
 }
@@ -207,6 +212,7 @@ fn put_searches(partition: usize)
     put_closest(find(3, partition, 1));
 }
 
+// The examples, one after the other.
 fn main() {
     put_shown(63, 1);
     put_shown(63, 0);
