@@ -94,3 +94,31 @@ sq-byte a b ha hb =
 pub dist-byte : (c d : Rgb) → Below 256 c → Below 256 d → distSq c d ≤ 195075
 unfolding distSq
 dist-byte c d h k = omega (arith, sq-byte _ _ (h .r) (k .r), sq-byte _ _ (h .g) (k .g), sq-byte _ _ (h .b) (k .b))
+
+sq-zero : (a b : ℕ) → sqDiff a b ≡ 0 → a ≡ b
+unfolding sqDiff
+sq-zero a b e =
+    let (x, y) = add-zero-parts ((a - b) * (a - b)) ((b - a) * (b - a)) e in
+    omega (arith, square-zero (a - b) x, square-zero (b - a) y)
+  where
+    add-zero-parts : (x y : ℕ) → x + y ≡ 0 → (x ≡ 0) × (y ≡ 0)
+    add-zero-parts x y e = (omega arith, omega arith)
+
+    square-zero : (n : ℕ) → n * n ≡ 0 → n ≡ 0
+    square-zero zero e = refl
+    square-zero (suc n) e = absurd (omega arith)
+
+-- colours at no distance are the same, and the other way round
+pub dist-zero : (c d : Rgb) → distSq c d ≡ 0 → c ≡ d
+unfolding distSq
+dist-zero c d e =
+    rgb-eq (sq-zero (c .r) (d .r) (omega (arith, e))) (sq-zero (c .g) (d .g) (omega (arith, e))) (sq-zero (c .b) (d .b) (omega (arith, e)))
+
+sq-self : (a : ℕ) → sqDiff a a ≡ 0
+unfolding sqDiff
+sq-self a = let e : a - a ≡ 0 = omega arith in rw e
+
+-- a colour is at no distance from itself
+pub dist-self : (c : Rgb) → distSq c c ≡ 0
+unfolding distSq
+dist-self c = rw (sq-self (c .r), sq-self (c .g), sq-self (c .b))

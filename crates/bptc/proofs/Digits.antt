@@ -1,5 +1,5 @@
 -- Laws of binary digits: the two counts are those of the machine, and a number's lowest 1.
-use Prim.Native.Nat.{ℕ, zero, suc, _+_, _-_, _*_, _/_, _%_, _^_, _<_}
+use Prim.Native.Nat.{ℕ, zero, suc, _+_, _-_, _*_, _/_, _%_, _^_, _≤_, _<_}
 use native.Mathlib.Nat.{div-lt-iff-lt-mul, pow-suc}
 use native.Mathlib.Numerals.{add-one, one-add}
 use native.Mathlib.Omega.{arith}
@@ -12,6 +12,7 @@ use lib.Pow.{mod-pow-add}
 use borrow.Author.Tests.{eqb-true, eqb-false}
 use Rattle.bptc.specs.Tests.{pick}
 use Rattle.bptc.specs.Digits.{bit, onesBelow, zerosBelow}
+use Rattle.bptc.proofs.Tests.{pick-elim}
 
 half : (k n : ℕ) → n < 2 ^ suc k → n / 2 < 2 ^ k
 half k n h = div-lt-iff-lt-mul (lit< tt) .1 (rw pow-suc at h)
@@ -34,6 +35,12 @@ zeros-is (suc k) n = go (n % 2) (omega arith) (zeros-is k (n / 2))
     go zero h e = ap suc e
     go (suc zero) h e = refl
     go (suc (suc d)) h e = absurd (omega arith)
+
+-- at most all of them
+pub zeros-le : (k n : ℕ) → zerosBelow k n ≤ k
+unfolding zerosBelow
+zeros-le zero n = omega arith
+zeros-le (suc k) n = pick-elim (λ (z : ℕ). z ≤ suc k) (eqb (n % 2) 1) (λ t. omega arith) (λ t. omega (arith, zeros-le k (n / 2)))
 
 -- a number without a 1
 pub zeros-zero : (k : ℕ) → zerosBelow k 0 ≡ k

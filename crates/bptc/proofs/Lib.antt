@@ -7,6 +7,7 @@ pub mod Digits
 pub mod Bytes
 pub mod PartitionRule
 pub mod ColourBounds
+pub mod PixelBytes
 pub mod ShownBytes
 pub mod Modes
 pub mod Largest

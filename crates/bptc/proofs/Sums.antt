@@ -2,6 +2,7 @@
 use Prim.Native.Nat.{ℕ, zero, suc, _+_, _*_, _≤_, _<_}
 use mathlib.Core.Path.{_≡_, refl, ap, _∙_}
 use mathlib.Core.List.{List, [], _∷_, _++_, map}
+use native.Mathlib.Nat.{zero-add, add-zero, add-suc, suc-add}
 use native.Mathlib.Numerals.{add-one}
 use native.Mathlib.Omega.{arith}
 use lib.Dec.{eqb}
@@ -26,6 +27,11 @@ sum-add f g (suc k) n = omega (arith, sum-add f g k (suc n))
 sum-most : (f : ℕ → ℕ) (b k n : ℕ) → ((i : ℕ) → i < n + k → f i ≤ b) → sum (map f (upFrom n k)) ≤ k * b
 sum-most f b zero n h = omega arith
 sum-most f b (suc k) n h = omega (arith, h n (omega arith), sum-most f b k (suc n) (λ i l. h i (omega arith)))
+
+sum-zero : (f : ℕ → ℕ) (k n : ℕ) → sum (map f (upFrom n k)) ≡ 0 → (i : ℕ) → i < k → f (n + i) ≡ 0
+sum-zero f zero n e i h = absurd (omega arith)
+sum-zero f (suc k) n e zero h = rw add-zero (omega (arith, e))
+sum-zero f (suc k) n e (suc i) h = rw (add-suc, ← suc-add) (sum-zero f k (suc n) (omega (arith, e)) i (omega arith))
 
 sum-append : (xs : List ℕ) (x : ℕ) → sum (xs ++ (x ∷ [])) ≡ sum xs + x
 sum-append [] x = omega arith
@@ -55,6 +61,16 @@ module _ (f g : ℕ → ℕ) where
 pub pixels-most : (f : ℕ → ℕ) (b : ℕ) → ((i : ℕ) → i < 16 → f i ≤ b) → overPixels f ≤ 16 * b
 unfolding overPixels
 pixels-most f b = sum-most f b 16 0
+
+-- nothing in all is nothing at every pixel
+pub pixels-zero : (f : ℕ → ℕ) → overPixels f ≡ 0 → (i : ℕ) → i < 16 → f i ≡ 0
+unfolding overPixels
+pixels-zero f e i h = rw zero-add at (sum-zero f 16 0 e i h)
+
+-- and the other way round
+pub pixels-none : (f : ℕ → ℕ) → ((i : ℕ) → i < 16 → f i ≡ 0) → overPixels f ≡ 0
+unfolding overPixels
+pixels-none f h = pixels-same f (λ (i : ℕ). 0) h
 
 -- what lies in each of two subsets makes the whole
 pub pixels-split : (f s : ℕ → ℕ) → ((i : ℕ) → i < 16 → s i < 2) →

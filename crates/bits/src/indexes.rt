@@ -1,0 +1,140 @@
+// Sixteen indexes as one number: what the Rust's IndexList does.
+ghost use mathlib.Core.Path.{_≡_};
+ghost use Prim.Native.Nat.{ℕ, _+_, _-_, _*_, _^_, _<_, _≤_};
+ghost use lib.Dec.{eqb};
+ghost use lib.ListN.{getD, length};
+ghost use Rattle.bptc.specs.Tests.{pick};
+ghost use Rattle.bptc_block.specs.Rust.IndexList.{index-list};
+ghost use Rattle.bptc_block.specs.Rust.CompressedIndexList.{ensure-msb-zero, compress-single-index, bits-repeat2-u16, bits-repeat3-u16, compress-p2};
+
+// Indexes, and whether those of a subset were flipped.
+pub(crate) struct Ensured {
+    pub indexes: u64,
+    pub swap: bool,
+}
+
+// The indexes without the two anchors' top bits, and whether each subset is swapped.
+pub(crate) struct CompressedIndexList {
+    pub indexes: u64,
+    pub swap0: bool,
+    pub swap1: bool,
+}
+
+// The indexes as one number, that of pixel 0 lowest.
+pub(crate) fn index_list(bits: u32, indices: &[u8; 16]) -> u64
+    requires few { ⌜ bits ≤ 3 ⌝ }
+    requires sixteen { ⌜ length (now indices) ≡ 16 ⌝ }
+    requires small { ⌜ ((i : ℕ) → getD (now indices) i 0 < 2 ^ bits) ⌝ }
+    ensures { λ r. ⌜ r ≡ index-list bits (now (indices .entry)) ⌝ }
+{
+    let mut indexes: u64 = 0;
+    let mut at: u32 = 0;
+    let mut i: usize = 0;
+    while i < 16 {
+        indexes = indexes | ((indices[i] as u64) << at);
+        at += bits;
+        i += 1;
+    }
+    indexes
+}
+
+// Each of sixteen bits twice.
+fn bits_repeat2_u16(x: u16) -> u32
+    ensures { λ r. ⌜ r ≡ bits-repeat2-u16 x ⌝ }
+{
+    let x0 = x as u32;
+    let x1 = (x0 | (x0 << 8)) & 0x00FF_00FF;
+    let x2 = (x1 | (x1 << 4)) & 0x0F0F_0F0F;
+    let x3 = (x2 | (x2 << 2)) & 0x3333_3333;
+    let x4 = (x3 | (x3 << 1)) & 0x5555_5555;
+    x4 | (x4 << 1)
+}
+
+// Each of sixteen bits three times.
+fn bits_repeat3_u16(x: u16) -> u64
+    ensures { λ r. ⌜ r ≡ bits-repeat3-u16 x ⌝ }
+{
+    let x0 = x as u64;
+    let x1 = (x0 | (x0 << 16)) & 0x0000_FF00_00FF;
+    let x2 = (x1 | (x1 << 8)) & 0x00F0_0F00_F00F;
+    let x3 = (x2 | (x2 << 4)) & 0x0C30_C30C_30C3;
+    let x4 = (x3 | (x3 << 2)) & 0x2492_4924_9249;
+    x4 | (x4 << 1) | (x4 << 2)
+}
+
+// All bits of the indexes of subset 1.
+fn subset_mask(bits: u32, mask: u16) -> u64
+    ensures { λ r. ⌜ r ≡ pick (eqb bits 2) (bits-repeat2-u16 mask) (bits-repeat3-u16 mask) ⌝ }
+{
+    if bits == 2 {
+        bits_repeat2_u16(mask) as u64
+    } else {
+        bits_repeat3_u16(mask)
+    }
+}
+
+// The place of the top bit of an index.
+fn msb(bits: u32, index: u32) -> u32
+    requires some { ⌜ 0 < bits ⌝ }
+    requires few { ⌜ bits ≤ 3 ⌝ }
+    requires inside { ⌜ index < 16 ⌝ }
+    ensures { λ r. ⌜ (r ≡ bits - 1 + index * bits) × (r < 48) ⌝ }
+{
+    bits - 1 + index * bits
+}
+
+// Flips the indexes of a subset where the top bit of an index of `bits` bits is set.
+fn ensure_msb_zero(bits: u32, indexes: u64, index: u32, subset_mask: u64) -> Ensured
+    requires some { ⌜ 0 < bits ⌝ }
+    requires few { ⌜ bits ≤ 3 ⌝ }
+    requires inside { ⌜ index < 16 ⌝ }
+    ensures same { λ r. ⌜ r .indexes ≡ ensure-msb-zero bits indexes index «subset_mask» .0 ⌝ }
+    ensures turned { λ r. ⌜ r .swap ≡ ensure-msb-zero bits indexes index «subset_mask» .1 ⌝ }
+{
+    let msb_mask = 1u64 << msb(bits, index);
+    if indexes & msb_mask == 0 {
+        Ensured {
+            indexes,
+            swap: false,
+        }
+    } else {
+        Ensured {
+            indexes: indexes ^ subset_mask,
+            swap: true,
+        }
+    }
+}
+
+// Takes out the top bit of an index.
+fn compress_single_index(bits: u32, indexes: u64, index: u32) -> u64
+    requires some { ⌜ 0 < bits ⌝ }
+    requires few { ⌜ bits ≤ 3 ⌝ }
+    requires inside { ⌜ index < 16 ⌝ }
+    ensures { λ r. ⌜ r ≡ compress-single-index bits indexes index ⌝ }
+{
+    let msb_mask = 1u64 << msb(bits, index);
+    let before_mask = msb_mask - 1;
+    let after_mask = (0xFFFF_FFFF_FFFF_FFFF - before_mask) << 1;
+    (indexes & before_mask) | ((indexes & after_mask) >> 1)
+}
+
+// Flips the subsets whose anchors ask for it, pixel 0 first, and takes the anchors' top bits out.
+pub(crate) fn compress_p2(bits: u32, indexes: u64, mask: u16, anchor: u32) -> CompressedIndexList
+    requires some { ⌜ 0 < bits ⌝ }
+    requires few { ⌜ bits ≤ 3 ⌝ }
+    requires inside { ⌜ anchor < 16 ⌝ }
+    ensures same { λ r. ⌜ r .indexes ≡ compress-p2 bits indexes (record { subset-indexes = mask; fixup-index-2 = anchor }) .0 .compressed-indexes ⌝ }
+    ensures first { λ r. ⌜ r .swap0 ≡ compress-p2 bits indexes (record { subset-indexes = mask; fixup-index-2 = anchor }) .1 ⌝ }
+    ensures second { λ r. ⌜ r .swap1 ≡ compress-p2 bits indexes (record { subset-indexes = mask; fixup-index-2 = anchor }) .2 ⌝ }
+{
+    let mask_s1 = subset_mask(bits, mask);
+    let all = (1u64 << (bits * 16)) - 1;
+    let e0 = ensure_msb_zero(bits, indexes, 0, mask_s1 ^ all);
+    let e1 = ensure_msb_zero(bits, e0.indexes, anchor, mask_s1);
+    let shorter = compress_single_index(bits, e1.indexes, anchor);
+    CompressedIndexList {
+        indexes: compress_single_index(bits, shorter, 0),
+        swap0: e0.swap,
+        swap1: e1.swap,
+    }
+}

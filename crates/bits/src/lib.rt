@@ -1,0 +1,8 @@
+// The 128 bits of a block in modes 1 and 3: fields written and read by bit place, and the colours that they show.
+pub use bptc::Rgb;
+pub use bptc_block::Fields;
+
+mod indexes;
+pub mod reading;
+mod stream;
+pub mod writing;

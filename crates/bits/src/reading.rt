@@ -1,0 +1,176 @@
+// The fields and the colours of a block, read by bit place.
+ghost use mathlib.Core.Path.{_≡_};
+ghost use mathlib.Core.Logic.{_⊎_};
+ghost use Prim.Native.Nat.{_+_, _*_, _/_, _%_, _<_, _≤_};
+ghost use lib.ListN.{getD, take, drop};
+ghost use Rattle.bptc.specs.Rows.{sum};
+ghost use Rattle.bptc.specs.Mode.{modeNumbered};
+ghost use Rattle.bptc.specs.Shown.{Stored};
+ghost use Rattle.bptc.specs.Palette.{palettes};
+ghost use Rattle.bptc_block.specs.Bits.{fieldAt, split};
+ghost use Rattle.bptc_block.specs.Bytes.{number};
+ghost use Rattle.bptc_block.specs.Fields.{Plain, indexWidthBy, widths};
+ghost use Rattle.bptc_block.specs.Packed.{fieldsOf};
+ghost use Rattle.bptc_block.specs.Chapter.{colours};
+use bptc::Rgb;
+use bptc_block::Fields;
+use palette::Mode1;
+use palette::Mode3;
+use palette::colour::dist_sq;
+use palette::table::anchor;
+use palette::table::mask;
+
+// Byte k of a block, and 0 past its end.
+fn byte(block: &[u8], k: usize) -> u32
+    ensures same { λ r. ⌜ r ≡ getD (now (block .entry)) k 0 ⌝ }
+    ensures small { λ r. ⌜ r < 256 ⌝ }
+{
+    if k < block.len() { block[k] as u32 } else { 0 }
+}
+
+// The field of `width` bits that begins at bit `at` of a block.
+fn field(block: &[u8], at: u32, width: u32) -> u8
+    requires inside { ⌜ at ≤ 128 ⌝ }
+    requires few { ⌜ width ≤ 8 ⌝ }
+    ensures { λ r. ⌜ r ≡ fieldAt (number (now (block .entry))) at width ⌝ }
+{
+    let low = byte(block, (at / 8) as usize);
+    let high = byte(block, (at / 8 + 1) as usize);
+    (((high * 256 + low) >> (at % 8)) % (1u32 << width)) as u8
+}
+
+// The bits of a stored channel, by the mode's number.
+fn channel_bits(mode: u8) -> u32
+    ensures { λ r. ⌜ (r ≡ modeNumbered mode .channelBits) × (r ≤ 7) ⌝ }
+{
+    match mode {
+        1 => Mode1::CHANNEL_BITS,
+        _ => Mode3::CHANNEL_BITS,
+    }
+}
+
+// The number of p-bits.
+fn p_bits(mode: u8) -> u32
+    ensures { λ r. ⌜ (r ≡ modeNumbered mode .pBits) × (r ≤ 4) ⌝ }
+{
+    match mode {
+        1 => Mode1::P_BITS,
+        _ => Mode3::P_BITS,
+    }
+}
+
+// The bits of an index.
+fn index_bits(mode: u8) -> u32
+    ensures { λ r. ⌜ (r ≡ modeNumbered mode .indexBits) × ((0 < r) × (r ≤ 3)) ⌝ }
+{
+    match mode {
+        1 => Mode1::INDEX_BITS,
+        _ => Mode3::INDEX_BITS,
+    }
+}
+
+// The stored endpoint k, its channels of `bits` bits from bit `at` on: four reds, four greens, four blues.
+fn end_at(block: &[u8], at: u32, bits: u32, k: u32) -> Rgb
+    requires few { ⌜ bits ≤ 7 ⌝ }
+    requires four { ⌜ k < 4 ⌝ }
+    requires inside { ⌜ at + 12 * bits ≤ 128 ⌝ }
+    ensures { λ r. ⌜ r ≡ record {
+      r = fieldAt (number (now (block .entry))) (at + k * bits) bits;
+      g = fieldAt (number (now (block .entry))) (at + (4 + k) * bits) bits;
+      b = fieldAt (number (now (block .entry))) (at + (8 + k) * bits) bits;
+    } ⌝ }
+{
+    Rgb {
+        r: field(block, at + k * bits, bits),
+        g: field(block, at + (4 + k) * bits, bits),
+        b: field(block, at + (8 + k) * bits, bits),
+    }
+}
+
+// The width of the index of pixel i.
+fn index_width(bits: u32, anchor: usize, i: usize) -> u32
+    requires some { ⌜ 0 < bits ⌝ }
+    ensures { λ r. ⌜ (r ≡ indexWidthBy bits anchor i) × (r ≤ bits) ⌝ }
+{
+    if i == 0 || i == anchor {
+        bits - 1
+    } else {
+        bits
+    }
+}
+
+// The sixteen indices, from bit `at` on.
+fn indices(mode: u8, block: &[u8], at: u32, partition: u8) -> [u8; 16]
+    requires inside { ⌜ partition < 64 ⌝ }
+    requires place { ⌜ at ≡ sum (take 15 (widths (modeNumbered mode) partition)) ⌝ }
+    ensures { λ r. ⌜ r ≡ drop 15 (split (widths (modeNumbered mode) partition) (number (now (block .entry)))) ⌝ }
+{
+    let bits = index_bits(mode);
+    let place = anchor(partition as usize);
+    let mut out = [0u8; 16];
+    let mut next = at;
+    let mut i: usize = 0;
+    while i < 16 {
+        let width = index_width(bits, place, i);
+        out[i] = field(block, next, width);
+        next += width;
+        i += 1;
+    }
+    out
+}
+
+// The fields of a block. Requires mode 1 or 3.
+pub fn fields(mode: u8, block: &[u8]) -> Fields
+    requires { ⌜ (mode ≡ 1) ⊎ (mode ≡ 3) ⌝ }
+    ensures { λ r. ⌜ r ≡ fieldsOf (modeNumbered mode) (now (block .entry)) ⌝ }
+{
+    let bits = channel_bits(mode);
+    let own = p_bits(mode);
+    let at = mode as u32 + 7;
+    let partition = field(block, at - 6, 6);
+    let ends = [
+        end_at(block, at, bits, 0),
+        end_at(block, at, bits, 1),
+        end_at(block, at, bits, 2),
+        end_at(block, at, bits, 3),
+    ];
+    let p = field(block, at + 12 * bits, own);
+    let indices = indices(mode, block, at + 12 * bits + own, partition);
+    Fields {
+        partition,
+        ends,
+        p,
+        indices,
+    }
+}
+
+// Both palettes, by the mode's number.
+fn palettes(mode: u8, ends: [Rgb; 4], p: u8) -> [[Rgb; 8]; 2]
+    requires { ⌜ Stored (modeNumbered mode) ends ⌝ }
+    ensures { λ r. ⌜ r ≡ palettes (modeNumbered mode) ends p ⌝ }
+{
+    match mode {
+        1 => Mode1::palettes(ends, p),
+        _ => Mode3::palettes(ends, p),
+    }
+}
+
+// The sixteen colours of fields. Requires that they are in range.
+pub fn colours(mode: u8, f: Fields) -> [Rgb; 16]
+    requires { ⌜ Plain (modeNumbered mode) f ⌝ }
+    ensures { λ r. ⌜ r ≡ colours (modeNumbered mode) f ⌝ }
+{
+    let ends = f.ends;
+    let indices = f.indices;
+    let rows = palettes(mode, ends, f.p);
+    let subsets = mask(f.partition as usize);
+    let none = Rgb { r: 0, g: 0, b: 0 };
+    let mut out = [none; 16];
+    let mut i: usize = 0;
+    while i < 16 {
+        let row = rows[((subsets >> i) % 2) as usize];
+        out[i] = row[indices[i] as usize];
+        i += 1;
+    }
+    out
+}

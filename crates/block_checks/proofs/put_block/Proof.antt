@@ -1,0 +1,47 @@
+-- `block_checks::put_block` meets its contract.
+use Prim.Native.Nat.{_-_, _≤_}
+use lib.ListN.{length}
+use borrow.Author.Needs.{needs}
+use Rattle.block_checks.proofs.put_block.Statement.{statement}
+use Rattle.block_checks.proofs.put_block.Tie as tie
+
+abbrev Inv-loop : tie.InvT-loop
+Inv-loop part i₀ i = i ≤ length part
+
+abbrev μ-loop : tie.MeasureT-loop
+μ-loop part i₀ i = length part - i
+
+loop-holds : tie.Need-loop-holds Inv-loop μ-loop
+loop-holds c = search needs
+
+shared-slice-read-put-hex : tie.Need-shared-slice-read-put-hex Inv-loop μ-loop
+shared-slice-read-put-hex c = search needs
+
+put-hex-requires : tie.Need-put-hex-requires Inv-loop μ-loop
+put-hex-requires c κs = search needs
+
+add-i : tie.Need-add-i Inv-loop μ-loop
+add-i c = search needs
+
+loop-less : tie.Need-loop-less Inv-loop μ-loop
+loop-less c = search needs
+
+loop-again : tie.Need-loop-again Inv-loop μ-loop
+loop-again c = search needs
+
+returns : tie.Need-returns Inv-loop μ-loop
+returns c = search needs
+
+pub put-block-spec : {M : Type 1} → statement M
+put-block-spec =
+    tie.close
+    (tie.spec
+    Inv-loop
+    μ-loop
+    loop-holds
+    shared-slice-read-put-hex
+    put-hex-requires
+    add-i
+    loop-less
+    loop-again
+    returns)

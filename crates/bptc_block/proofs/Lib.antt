@@ -1,0 +1,17 @@
+pub mod Bits
+pub mod Bytes
+pub mod Halves
+pub mod Widths
+pub mod Packed
+pub mod Places
+pub mod Turns
+pub mod Modes
+pub mod Flipping
+pub mod Exchanging
+pub mod Refusals
+pub mod Readable
+pub mod PackCall
+pub mod ReadCall
+pub mod RoundTrip
+pub mod Distance
+pub mod Rust

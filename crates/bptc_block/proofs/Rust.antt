@@ -1,0 +1,11 @@
+pub mod Digits
+pub mod TopBit
+pub mod Without
+pub mod AnchorBits
+pub mod Masks
+pub mod Compressing
+pub mod Stream
+pub mod Swaps
+pub mod Blocks
+pub mod Packs
+pub mod Writing

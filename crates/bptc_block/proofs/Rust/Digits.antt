@@ -1,0 +1,94 @@
+-- An IndexList is the number of its indexes, each a digit of I bits: what `get` and `set` do to them.
+use Prim.Native.Nat.{ℕ, zero, suc, _+_, _*_, _/_, _%_, _^_, _≤_, _<_}
+use native.Mathlib.Nat.{add-comm, zero-mul, one-mul, suc-mul, div-one, zero-div, zero-mod, mul-le-mul-right, le-pred-of-lt}
+use native.Mathlib.Numerals.{add-one}
+use native.Mathlib.Omega.{arith}
+use mathlib.Core.Path.{_≡_, sym, ap, _∙_}
+use mathlib.Core.List.{List, [], _∷_, _++_, append-nil, append-assoc}
+use lib.Bits.{or-shifted-r}
+use lib.Pow.{pow-pos, shl-exact, shr-shr, high, low}
+use lib.Seq.{take-suc, length-take-le}
+use lib.ListN.{length, getD, take, replicate, length-append, length-replicate, replicate-append-replicate}
+use Rattle.bptc.specs.Rust.Words.{loop, enumerate}
+use Rattle.bptc_block.specs.Bits.{join}
+use Rattle.bptc_block.specs.Rust.IndexList.{put, index-list}
+use Rattle.bptc_block.proofs.Bits.{fits-same, join-lt, join-snoc, sum-replicate}
+
+-- the number of digits, the lowest first: fields of one width
+unfoldable pub digits : ℕ → List ℕ → ℕ
+digits I xs = join (replicate (length xs) I) xs
+
+-- every digit has I bits
+abbrev pub Small : ℕ → List ℕ → Type 0
+Small I xs = (i : ℕ) → getD xs i 0 < 2 ^ I
+
+-- the number has no bits above them
+pub digits-small : (I : ℕ) (xs : List ℕ) → Small I xs → digits I xs < 2 ^ (length xs * I)
+unfolding digits
+digits-small I xs h = rw sum-replicate at (join-lt (fits-same I xs (λ i l. h i)))
+
+digits-snoc : (I : ℕ) (xs : List ℕ) (v : ℕ) → digits I (xs ++ (v ∷ [])) ≡ v * 2 ^ (length xs * I) + digits I xs
+unfolding digits
+digits-snoc I xs v =
+    rw (length-append, ← replicate-append-replicate, join-snoc (replicate (length xs) I) xs I v (rw length-replicate), sum-replicate)
+    (add-comm (join (replicate (length xs) I) xs) (v * 2 ^ (length xs * I)))
+
+-- one more
+pub small-snoc : (I : ℕ) (xs : List ℕ) (v : ℕ) → Small I xs → v < 2 ^ I → Small I (xs ++ (v ∷ []))
+small-snoc I [] v h hv zero = hv
+small-snoc I [] v h hv (suc i) = pow-pos I
+small-snoc I (x ∷ xs) v h hv zero = h 0
+small-snoc I (x ∷ xs) v h hv (suc i) = small-snoc I xs v (λ i. h (suc i)) hv i
+
+-- their number
+pub length-snoc : (xs : List ℕ) (v : ℕ) → length (xs ++ (v ∷ [])) ≡ suc (length xs)
+length-snoc xs v = length-append xs (v ∷ []) ∙ add-one (length xs)
+
+-- the first ones
+small-take : (I : ℕ) (xs : List ℕ) (k : ℕ) → Small I xs → Small I (take k xs)
+small-take I xs zero h i = pow-pos I
+small-take I [] (suc k) h i = pow-pos I
+small-take I (x ∷ xs) (suc k) h zero = h 0
+small-take I (x ∷ xs) (suc k) h (suc i) = small-take I xs k (λ i. h (suc i)) i
+
+-- one, shifted
+pub one-shl : (w k : ℕ) → suc k ≤ w → 1 * 2 ^ k % 2 ^ w ≡ 2 ^ k
+one-shl w k h = shl-exact 1 k w (omega arith) (omega arith) ∙ one-mul (2 ^ k)
+
+-- a digit by its place
+pub digit-at : (I : ℕ) (xs : List ℕ) (i : ℕ) → Small I xs → digits I xs / 2 ^ (i * I) % 2 ^ I ≡ getD xs i 0
+unfolding digits join
+digit-at I [] i h = rw (zero-div, zero-mod)
+digit-at I (x ∷ xs) zero h = rw (zero-mul, div-one) (low (digits I xs) I (h 0))
+digit-at I (x ∷ xs) (suc i) h = rw (suc-mul, add-comm (i * I) I, ← shr-shr, high (digits I xs) I (h 0)) (digit-at I xs i (λ i. h (suc i)))
+
+module _ (I : ℕ) (narrow : I ≤ 3) where
+  -- sixteen of them have room
+  pub room : (l : ℕ) → l < 16 → I + l * I ≤ 64
+  room l h = omega (arith, mul-le-mul-right I (le-pred-of-lt h))
+
+  -- set, at the place after the last
+  pub put-digits : (xs : List ℕ) (v : ℕ) → length xs < 16 → Small I xs → v < 2 ^ I → put I (digits I xs) (length xs) v ≡ digits I (xs ++ (v ∷ []))
+  unfolding put
+  put-digits xs v l h hv =
+      rw (shl-exact I (length xs * I) 64 hv (room (length xs) l), or-shifted-r v (length xs * I) (digits I xs) (digits-small I xs h)) (sym (digits-snoc I xs v))
+
+  -- set, in a loop over a list of sixteen
+  pub put-next : (xs : List ℕ) (i : ℕ) → length xs ≡ 16 → Small I xs → i < 16 → put I (digits I (take i xs)) i (getD xs i 0) ≡ digits I (take (suc i) xs)
+  put-next xs i e h l =
+      let k : length (take i xs) ≡ i = length-take-le i xs (omega arith) in
+      rw (take-suc xs i 0 (omega arith)) (rw k at (put-digits (take i xs) (getD xs i 0) (omega arith) (small-take I xs i h) (h i)))
+
+  listed-on : (xs done : List ℕ) → length done + length xs ≤ 16 → Small I done → Small I xs →
+      loop (enumerate (length done) xs) (digits I done) (λ (self : ℕ) ((i, value) : ℕ × ℕ). put I self i value) ≡ digits I (done ++ xs)
+  listed-on [] done l h k = ap (digits I) (sym (append-nil done))
+  listed-on (x ∷ xs) done l h k =
+      ap (λ (n : ℕ). loop (enumerate (suc (length done)) xs) n (λ (self : ℕ) ((i, value) : ℕ × ℕ). put I self i value)) (put-digits done x (omega arith) h (k 0))
+      ∙ ap (λ (n : ℕ). loop (enumerate n xs) (digits I (done ++ (x ∷ []))) (λ (self : ℕ) ((i, value) : ℕ × ℕ). put I self i value)) (sym (length-snoc done x))
+      ∙ listed-on xs (done ++ (x ∷ [])) (omega (arith, length-snoc done x)) (small-snoc I done x h (k 0)) (λ i. k (suc i))
+      ∙ ap (digits I) (append-assoc done (x ∷ []) xs)
+
+  -- sixteen indexes, set one by one
+  pub list-digits : (xs : List ℕ) → length xs ≡ 16 → Small I xs → index-list I xs ≡ digits I xs
+  unfolding index-list digits join
+  list-digits xs l h = listed-on xs [] (omega arith) (λ i. pow-pos I) h

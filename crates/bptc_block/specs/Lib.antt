@@ -1,0 +1,13 @@
+pub mod Bits
+pub mod Bytes
+pub mod Fields
+pub mod Packed
+pub mod Chapter
+pub mod Exchange
+pub mod Refusal
+pub mod PackCall
+pub mod ReadCall
+pub mod MeasureCall
+pub mod Rust
+pub mod Packs
+pub mod RoundTrip

@@ -1,0 +1,6 @@
+-- The Rust's steps that make a block, each function under its own name (with - for _) and in its own order.
+pub mod PBits
+pub mod IndexList
+pub mod CompressedIndexList
+pub mod BitStream
+pub mod Compressed
