@@ -1,4 +1,4 @@
-// The 128 bits of a block in modes 1 and 3: fields written and read by bit place, and the colours that they show.
+// The 128 bits of a block in modes 1 and 3: fields written and read by bit place.
 pub use bptc::Rgb;
 pub use bptc_block::Fields;
 

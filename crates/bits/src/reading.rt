@@ -1,24 +1,19 @@
-// The fields and the colours of a block, read by bit place.
+// The fields of a block, read by bit place.
 ghost use mathlib.Core.Path.{_≡_};
 ghost use mathlib.Core.Logic.{_⊎_};
 ghost use Prim.Native.Nat.{_+_, _*_, _/_, _%_, _<_, _≤_};
 ghost use lib.ListN.{getD, take, drop};
 ghost use Rattle.bptc.specs.Rows.{sum};
 ghost use Rattle.bptc.specs.Mode.{modeNumbered};
-ghost use Rattle.bptc.specs.Shown.{Stored};
-ghost use Rattle.bptc.specs.Palette.{palettes};
 ghost use Rattle.bptc_block.specs.Bits.{fieldAt, split};
 ghost use Rattle.bptc_block.specs.Bytes.{number};
-ghost use Rattle.bptc_block.specs.Fields.{Plain, indexWidthBy, widths};
+ghost use Rattle.bptc_block.specs.Fields.{indexWidthBy, widths};
 ghost use Rattle.bptc_block.specs.Packed.{fieldsOf};
-ghost use Rattle.bptc_block.specs.Chapter.{colours};
 use bptc::Rgb;
 use bptc_block::Fields;
 use palette::Mode1;
 use palette::Mode3;
-use palette::colour::dist_sq;
 use palette::table::anchor;
-use palette::table::mask;
 
 // Byte k of a block, and 0 past its end.
 fn byte(block: &[u8], k: usize) -> u32
@@ -142,35 +137,4 @@ pub fn fields(mode: u8, block: &[u8]) -> Fields
         p,
         indices,
     }
-}
-
-// Both palettes, by the mode's number.
-fn palettes(mode: u8, ends: [Rgb; 4], p: u8) -> [[Rgb; 8]; 2]
-    requires { ⌜ Stored (modeNumbered mode) ends ⌝ }
-    ensures { λ r. ⌜ r ≡ palettes (modeNumbered mode) ends p ⌝ }
-{
-    match mode {
-        1 => Mode1::palettes(ends, p),
-        _ => Mode3::palettes(ends, p),
-    }
-}
-
-// The sixteen colours of fields. Requires that they are in range.
-pub fn colours(mode: u8, f: Fields) -> [Rgb; 16]
-    requires { ⌜ Plain (modeNumbered mode) f ⌝ }
-    ensures { λ r. ⌜ r ≡ colours (modeNumbered mode) f ⌝ }
-{
-    let ends = f.ends;
-    let indices = f.indices;
-    let rows = palettes(mode, ends, f.p);
-    let subsets = mask(f.partition as usize);
-    let none = Rgb { r: 0, g: 0, b: 0 };
-    let mut out = [none; 16];
-    let mut i: usize = 0;
-    while i < 16 {
-        let row = rows[((subsets >> i) % 2) as usize];
-        out[i] = row[indices[i] as usize];
-        i += 1;
-    }
-    out
 }

@@ -7,9 +7,9 @@ use crate::checks::candidate_refusal;
 use crate::checks::indices_refusal;
 use crate::checks::mode_of;
 use crate::checks::read_refusal;
+use crate::colours::colours;
 use crate::pixels::distance;
 use crate::pixels::write_pixels;
-use bits::reading::colours;
 use bits::reading::fields;
 use bits::writing::write_block;
 pub use bptc::Rgb;
@@ -20,6 +20,7 @@ pub use bptc_block::PBits;
 pub use bptc_block::Reading;
 
 mod checks;
+mod colours;
 mod pixels;
 
 // Packs fields into a lent block, a subset exchanged where its anchor's index has its top bit set. Gives the refusal's number, or 0.

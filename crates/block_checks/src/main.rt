@@ -84,10 +84,10 @@ fn changed(part: &[u8]) -> usize {
     n
 }
 
-// P8: partition 63 and all else zero.
-fn put_packed(mode: u8) {
+// Packs four endpoints with every index the same, and writes the block.
+fn put_packed(mode: u8, partition: u8, ends: [Rgb; 4], p: u8, index: u8) {
     let mut part = [0u8; 16];
-    let refusal = block::pack(mode, 63, level(0), 0, [0u8; 16], &mut part);
+    let refusal = block::pack(mode, partition, ends, p, [index; 16], &mut part);
     say(b"packed");
     put_byte(mode);
     put_byte(refusal);
@@ -96,24 +96,26 @@ fn put_packed(mode: u8) {
     line();
 }
 
-// A block with every index the mode's largest, so that both subsets are exchanged.
-fn put_exchanged(mode: u8, partition: u8, p: u8, largest: u8) {
-    let a = Rgb { r: 1, g: 2, b: 3 };
-    let b = Rgb {
-        r: 60,
-        g: 50,
-        b: 40,
-    };
-    let c = Rgb { r: 9, g: 18, b: 27 };
-    let d = Rgb { r: 63, g: 0, b: 33 };
-    let mut part = [0u8; 16];
-    let refusal = block::pack(mode, partition, [a, b, c, d], p, [largest; 16], &mut part);
-    say(b"exchanged");
-    put_byte(mode);
-    put_byte(refusal);
-    say(b" ");
-    put_block(&part);
-    line();
+// Four endpoints that differ.
+fn unlike() -> [Rgb; 4] {
+    [
+        Rgb { r: 1, g: 2, b: 3 },
+        Rgb {
+            r: 60,
+            g: 50,
+            b: 40,
+        },
+        Rgb { r: 9, g: 18, b: 27 },
+        Rgb { r: 63, g: 0, b: 33 },
+    ]
+}
+
+// P8, partition 63 and all else zero; and every index the mode's largest, so that both subsets are exchanged.
+fn put_blocks() {
+    put_packed(1, 63, level(0), 0, 0);
+    put_packed(3, 63, level(0), 0, 0);
+    put_packed(1, 17, unlike(), 2, 7);
+    put_packed(3, 17, unlike(), 9, 3);
 }
 
 // A call of pack into a lent part: its answer, and the bytes that it changed.
@@ -227,27 +229,30 @@ fn mix_reading(sum: u32, r: Reading, pixels: &[u8]) -> u32 {
     mix_part(mix_part(s, &indices), pixels)
 }
 
-// Draws a block of a mode, reads it, packs what was read, and measures it against its own pixels and against the ramp.
+// Packs what was read of a block, and measures it against its own pixels: both give back what there was.
+fn comes_back(part: &[u8; 16], r: Reading, pixels: &[u8]) -> bool {
+    let ends = r.ends;
+    let indices = r.indices;
+    let mut again = [0u8; 16];
+    let refusal = block::pack(r.mode, r.partition, ends, r.p, indices, &mut again);
+    let own = block::measure(part, pixels);
+    same(part, &again) && refusal == 0 && own.refusal == 0 && own.error == 0
+}
+
+// Draws a block of a mode, reads it, and measures it against the ramp.
 fn try_block(mode: u8, seed: u64, sum: u32) -> Tried {
     let mut part = [0u8; 16];
     let after = draw(seed, &mut part);
     part[0] = marked(mode, part[0]);
     let mut pixels = [0u8; 48];
     let r = block::read(&part, &mut pixels);
-    let ends = r.ends;
-    let indices = r.indices;
-    let mut again = [0u8; 16];
-    let refusal = block::pack(r.mode, r.partition, ends, r.p, indices, &mut again);
-    let own = block::measure(&part, &pixels);
     let picture = ramp();
     let far = block::measure(&part, &picture);
+    let all = mix_reading(sum, r, &pixels);
     Tried {
         seed: after,
-        sum: mix(
-            mix(mix_reading(sum, r, &pixels), far.error % 65536),
-            far.error / 65536,
-        ),
-        kept: same(&part, &again) && refusal == 0 && own.refusal == 0 && own.error == 0,
+        sum: mix(mix(all, far.error % 65536), far.error / 65536),
+        kept: comes_back(&part, r, &pixels),
     }
 }
 
@@ -274,14 +279,18 @@ fn put_drawn(mode: u8) {
     line();
 }
 
-// The refusals of pack, and the calls beside them that are not declined.
-fn put_packs() {
+// The refusals of pack by the length of the block part.
+fn put_parts() {
     let mut none = [0u8; 0];
     let mut short = [0u8; 15];
     let mut long = [0u8; 17];
     put_pack(1, 0, 0, 0, 0, &mut none);
     put_pack(1, 0, 0, 0, 0, &mut short);
     put_pack(2, 0, 0, 0, 0, &mut long);
+}
+
+// Those by the numbers handed in, and the calls beside them that are not declined.
+fn put_numbers() {
     let mut part = [0u8; 16];
     put_pack(2, 64, 0, 0, 0, &mut part);
     put_pack(1, 64, 64, 0, 0, &mut part);
@@ -323,11 +332,9 @@ fn put_lengths() {
 
 // The examples, one after the other.
 fn main() {
-    put_packed(1);
-    put_packed(3);
-    put_exchanged(1, 17, 2, 7);
-    put_exchanged(3, 17, 9, 3);
-    put_packs();
+    put_blocks();
+    put_parts();
+    put_numbers();
     put_first(0);
     put_first(1);
     put_first(4);

@@ -1,4 +1,4 @@
--- `bits::reading::colours` meets its contract. The invariant: the first i colours are written.
+-- `block::colours::colours` meets its contract. The invariant: the first i colours are written.
 use Prim.Native.Nat.{ℕ, _-_, _≤_, _<_}
 use native.Mathlib.Omega.{arith}
 use mathlib.Core.Path.{_≡_, refl, _∙_}
@@ -17,8 +17,8 @@ use Rattle.bptc.proofs.Rows.{written-next, written-all, each-same}
 use Rattle.bptc.proofs.PartitionRule.{subset-two}
 use Rattle.bptc.proofs.Shading.{palettes-at}
 use Rattle.bptc_block.specs.Chapter.{colourAt, colours}
-use Rattle.bits.proofs.reading.colours.Statement.{statement}
-use Rattle.bits.proofs.reading.colours.Tie as tie
+use Rattle.block.proofs.colours.colours.Statement.{statement}
+use Rattle.block.proofs.colours.colours.Tie as tie
 
 -- a row has every index
 few : (n : ℕ) → largest (modeNumbered n) < 8

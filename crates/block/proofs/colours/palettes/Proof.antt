@@ -1,7 +1,7 @@
--- `bits::reading::palettes` meets its contract, arm by arm.
+-- `block::colours::palettes` meets its contract, arm by arm.
 use borrow.Author.Tests.{ne-eqb}
-use Rattle.bits.proofs.reading.palettes.Statement.{statement}
-use Rattle.bits.proofs.reading.palettes.Tie as tie
+use Rattle.block.proofs.colours.palettes.Statement.{statement}
+use Rattle.block.proofs.colours.palettes.Tie as tie
 
 palettes-requires : tie.Need-palettes-requires
 palettes-requires c κs = simp (c .match .keys1) at (c .before .pre)
