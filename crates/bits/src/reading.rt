@@ -7,7 +7,7 @@ ghost use Rattle.bptc.specs.Rows.{sum};
 ghost use Rattle.bptc.specs.Mode.{modeNumbered};
 ghost use Rattle.bptc_block.specs.Bits.{fieldAt, split};
 ghost use Rattle.bptc_block.specs.Bytes.{number};
-ghost use Rattle.bptc_block.specs.Fields.{indexWidthBy, widths};
+ghost use Rattle.bptc_block.specs.Fields.{indexWidthBy, widths, endFrom};
 ghost use Rattle.bptc_block.specs.Packed.{fieldsOf};
 use bptc::Rgb;
 use bptc_block::Fields;
@@ -69,11 +69,7 @@ fn end_at(block: &[u8], at: u32, bits: u32, k: u32) -> Rgb
     requires few { ⌜ bits ≤ 7 ⌝ }
     requires four { ⌜ k < 4 ⌝ }
     requires inside { ⌜ at + 12 * bits ≤ 128 ⌝ }
-    ensures { λ r. ⌜ r ≡ record {
-      r = fieldAt (number (now (block .entry))) (at + k * bits) bits;
-      g = fieldAt (number (now (block .entry))) (at + (4 + k) * bits) bits;
-      b = fieldAt (number (now (block .entry))) (at + (8 + k) * bits) bits;
-    } ⌝ }
+    ensures { λ r. ⌜ r ≡ endFrom (number (now (block .entry))) at bits k ⌝ }
 {
     Rgb {
         r: field(block, at + k * bits, bits),

@@ -9,7 +9,7 @@ ghost use Rattle.bptc_block.specs.Bits.{halves};
 ghost use Rattle.bptc_block.specs.Bytes.{bytes};
 ghost use Rattle.bptc_block.specs.Fields.{Plain};
 ghost use Rattle.bptc_block.specs.Packed.{packed};
-ghost use Rattle.bptc_block.specs.Exchange.{swappedEnds, compressed};
+ghost use Rattle.bptc_block.specs.Exchange.{swappedEnds, turnedBits, compressed};
 use crate::indexes::compress_p2;
 use crate::indexes::index_list;
 use crate::stream::BitStream;
@@ -48,7 +48,7 @@ fn swapped(ends: [Rgb; 4], swap0: bool, swap1: bool) -> [Rgb; 4]
 // Two p-bits, exchanged where their endpoints are swapped.
 fn turned_bits(swap: bool, p: u8) -> u8
     requires { ⌜ p < 4 ⌝ }
-    ensures { λ r. ⌜ (r ≡ pick swap (p % 2 * 2 + p / 2) p) × (r < 4) ⌝ }
+    ensures { λ r. ⌜ (r ≡ turnedBits swap p) × (r < 4) ⌝ }
 {
     if swap { (p % 2) * 2 + p / 2 } else { p }
 }

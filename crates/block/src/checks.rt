@@ -1,10 +1,10 @@
 // The checks of the calls, in the order of their numbers.
 ghost use mathlib.Core.Path.{_≡_};
-ghost use lib.Dec.{eqb, leb};
+ghost use lib.Dec.{leb};
 ghost use lib.ListN.{length};
 ghost use Rattle.bptc.specs.Tests.{all};
 ghost use Rattle.bptc_block.specs.Packed.{modeOf};
-ghost use Rattle.bptc_block.specs.Refusal.{unless, within, inRange, pInRange, checkStored, checkCandidate, checkIndices, checkBlock, checkReadable};
+ghost use Rattle.bptc_block.specs.Refusal.{within, inRange, pInRange, checkStored, checkCandidate, checkIndices, checkPixels, checkBlock, checkReadable};
 use bptc::Rgb;
 use bptc_block::Candidate;
 use bptc_block::PBits;
@@ -91,7 +91,7 @@ pub(crate) fn indices_refusal(mode: u8, indices: &[u8]) -> u8
 
 // 1, 2, 8 and 9, over a pixel part of so many bytes.
 pub(crate) fn read_refusal(block: &[u8], pixels: usize) -> u8
-    ensures { λ r. ⌜ r ≡ unless (eqb pixels 48) 1 (checkBlock (now (block .entry)) (checkReadable (now (block .entry)) 0)) ⌝ }
+    ensures { λ r. ⌜ r ≡ checkPixels pixels (checkBlock (now (block .entry)) (checkReadable (now (block .entry)) 0)) ⌝ }
 {
     if pixels != 48 {
         return 1;

@@ -14,15 +14,11 @@ use Rattle.bptc.proofs.ColourBounds.{rgb-eq}
 use Rattle.bptc_block.specs.Bits.{split, fieldAt}
 use Rattle.bptc_block.specs.Bytes.{number}
 use Rattle.bptc_block.specs.declared.Fields.{Fields}
-use Rattle.bptc_block.specs.Fields.{indexWidth, widths, endAt, made}
+use Rattle.bptc_block.specs.Fields.{indexWidth, widths, endAt, endFrom, made}
 use Rattle.bptc_block.specs.Packed.{partitionIn, fieldsOf}
 use Rattle.bptc_block.proofs.Bits.{field, next-place, sum-take-le}
 use Rattle.bptc_block.proofs.Widths.{width-at}
 use Rattle.bptc_block.proofs.Packed.{Filling, partition-of}
-
--- endpoint k, its channels of some bits from a bit on: four reds, four greens, four blues
-abbrev pub endFrom : ℕ → ℕ → ℕ → ℕ → Rgb
-endFrom n at bits k = record { r = fieldAt n (at + k * bits) bits; g = fieldAt n (at + (4 + k) * bits) bits; b = fieldAt n (at + (8 + k) * bits) bits }
 
 module _ (m : Mode) (part : ℕ) where
   channel-width : (j : ℕ) → j < 12 → getD (widths m part) (2 + j) 0 ≡ m .channelBits

@@ -85,12 +85,12 @@ pub good : (c : Candidate) (rest : ℕ) → checkCandidate c rest ≡ 0 → Good
 unfolding checkCandidate
 good c rest e =
     let (m, e₁) = passed _ _ _ e in
-    let (part, e₂) = passed (leb (c .partition) 63) 3 _ e₁ in
+    let (part, e₂) = passed (leb (c .partition) _) 3 _ e₁ in
     let (ends, e₃) = passed _ _ _ e₂ in
     let (p, e₄) = passed (pInRange (2 ^ modeNumbered (c .mode) .pBits - 1) (c .p)) 5 rest e₃ in (
       record {
         mode = one-or-three (c .mode) m;
-        partition = lt-of-le-of-lt (leb-true (c .partition) 63 part) (lit< tt);
+        partition = lt-of-le-of-lt (leb-true (c .partition) _ part) (lit< tt);
         stored = λ k h. in-range (modeNumbered (c .mode) .channelBits) (c .ends) ends k;
         p = subst T (sym p) tt;
       },

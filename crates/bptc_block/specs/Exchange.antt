@@ -39,6 +39,10 @@ swappedEnds ends t u =
     let e : ℕ → Rgb = λ k. getD ends k black in
     pick t (e 1) (e 0) ∷ (pick t (e 0) (e 1) ∷ (pick u (e 3) (e 2) ∷ (pick u (e 2) (e 3) ∷ [])))
 
+-- the two p-bits of a subset of mode 3, exchanged or not
+abbrev pub turnedBits : Bool → ℕ → ℕ
+turnedBits t p = pick t (p % 2 * 2 + p / 2) p
+
 -- an index has its top bit set
 abbrev pub topSet : Mode → ℕ → Bool
 topSet m i = leb (2 ^ (m .indexBits - 1)) i

@@ -1,5 +1,5 @@
 -- What a block of modes 1 and 3 holds, and how wide each field is.
-use Prim.Native.Nat.{ℕ, suc, _+_, _-_, _^_, _<_}
+use Prim.Native.Nat.{ℕ, suc, _+_, _-_, _*_, _^_, _<_}
 use mathlib.Core.Path.{_≡_}
 use mathlib.Core.List.{List, _∷_, _++_, map}
 use lib.Dec.{eqb}
@@ -11,6 +11,7 @@ use Rattle.bptc.specs.Mode.{Mode, largest}
 use Rattle.bptc.specs.Partition.{anchorOf}
 use Rattle.bptc.specs.Colour.{black, Below}
 use Rattle.bptc_block.specs.declared.Fields.{Fields}
+use Rattle.bptc_block.specs.Bits.{fieldAt}
 
 -- an index has a bit less at pixel 0 and at the anchor of subset 1
 abbrev pub indexWidthBy : ℕ → ℕ → ℕ → ℕ
@@ -64,6 +65,10 @@ values m f = frontValues (m .number) (f .partition) (f .ends) (f .p ∷ f .indic
 -- endpoint k of such values
 abbrev pub endAt : List ℕ → ℕ → Rgb
 endAt vs k = record { r = getD vs (2 + k) 0; g = getD vs (6 + k) 0; b = getD vs (10 + k) 0 }
+
+-- endpoint k, its channels of some bits from a bit on: four reds, four greens, four blues
+abbrev pub endFrom : ℕ → ℕ → ℕ → ℕ → Rgb
+endFrom n at bits k = record { r = fieldAt n (at + k * bits) bits; g = fieldAt n (at + (4 + k) * bits) bits; b = fieldAt n (at + (8 + k) * bits) bits }
 
 -- the fields that such values make
 unfoldable pub made : List ℕ → Fields

@@ -17,9 +17,9 @@ abbrev pub unless : Bool → ℕ → ℕ → ℕ
 unless true k rest = rest
 unless false k rest = k
 
--- 1: the pixel part is 48 bytes long
-abbrev pub checkPixels : List ℕ → ℕ → ℕ
-checkPixels px rest = unless (eqb (length px) 48) 1 rest
+-- 1: a pixel part of so many bytes is 48 bytes long
+abbrev pub checkPixels : ℕ → ℕ → ℕ
+checkPixels bytes rest = unless (eqb bytes 48) 1 rest
 
 -- 2: the block part is 16 bytes long
 abbrev pub checkBlock : List ℕ → ℕ → ℕ

@@ -20,7 +20,7 @@ use Rattle.bptc_block.specs.Bytes.{bytes}
 use Rattle.bptc_block.specs.declared.Fields.{Fields}
 use Rattle.bptc_block.specs.Fields.{Plain, WellFormed, indexWidth, frontWidths, frontValues, widths, values}
 use Rattle.bptc_block.specs.Packed.{packed}
-use Rattle.bptc_block.specs.Exchange.{exchangedBits, flipped, swappedEnds, anchored, compressed}
+use Rattle.bptc_block.specs.Exchange.{exchangedBits, flipped, swappedEnds, turnedBits, anchored, compressed}
 use Rattle.bptc_block.specs.Rust.IndexList.{index-list}
 use Rattle.bptc_block.specs.Rust.CompressedIndexList.{compress-p2}
 use Rattle.bptc_block.proofs.Bits.{join-single}
@@ -39,10 +39,6 @@ ends-turned m f true true four = refl
 ends-turned m f true false four = refl
 ends-turned m f false true four = refl
 ends-turned m f false false four = listed black (f .ends) 4 four
-
--- two p-bits, exchanged or not
-abbrev turnedBits : Bool → ℕ → ℕ
-turnedBits t p = pick t (p % 2 * 2 + p / 2) p
 
 -- the test of mode 3's p-bits after both exchanges
 abbrev bothTest : Bool → Bool → ℕ → Bool
