@@ -1,5 +1,5 @@
 #!/usr/bin/env python3
-"""Prints what block_checks must print, from the chapter's layout and rules and the partition texts of the Rust.
+"""Prints what block_checks must print, from the chapter's layout and rules and the Rust's partition texts and steps of finishing.
 
 python3 expected.py BCN_DATA.RS > stdout, where BCN_DATA.RS is src/bcn_data.rs of image-dds.
 """
@@ -13,6 +13,8 @@ ANCHORS = [text.index('-') for text in TEXTS]
 WEIGHTS = {2: (0, 21, 43, 64), 3: (0, 9, 18, 27, 37, 46, 55, 64)}
 # of each mode: the bits of a channel, the number of p-bits, the bits of an index
 MODES = {1: (6, 2, 3), 3: (7, 4, 2)}
+# of each mode: the p-bits that a subset tries where they are free, the lower endpoint's first
+ALL = {1: ((0, 0), (1, 1)), 3: ((0, 0), (0, 1), (1, 0), (1, 1))}
 KEPT = 165
 BLOCKS = 256
 RAMP = [i * 5 % 256 for i in range(48)]
@@ -66,19 +68,27 @@ def pack(mode, partition, ends, p, indices):
     return number.to_bytes(16, 'little')
 
 
+def shown(mode, end, bit):
+    """The bytes that a stored endpoint shows: the p-bit below each channel, and the top bits again below both."""
+    n = MODES[mode][0] + 1
+    return [v << (8 - n) | v >> (2 * n - 8) for v in (2 * e + bit for e in end)]
+
+
+def bits_of(mode, p, s):
+    """The p-bits of the lower and the upper endpoint of a subset."""
+    return (p >> s & 1, p >> s & 1) if mode == 1 else (p >> 2 * s & 1, p >> 2 * s + 1 & 1)
+
+
+def palette(mode, ends, s, bits):
+    """The colours of a subset at these p-bits, from its lower endpoint to its upper."""
+    lower, upper = (shown(mode, ends[2 * s + k], bits[k]) for k in (0, 1))
+    return [[((64 - w) * x + w * y + 32) >> 6 for x, y in zip(lower, upper)] for w in WEIGHTS[MODES[mode][2]]]
+
+
 def pixels(mode, partition, ends, p, indices):
     """The 48 bytes that the chapter shows."""
-    channel, p_bits, size = MODES[mode]
-    n = channel + 1
-    shown = []
-    for k, end in enumerate(ends):
-        values = [2 * e + (p >> (k if p_bits == 4 else k // 2) & 1) for e in end]
-        shown.append([v << (8 - n) | v >> (2 * n - 8) for v in values])
-    out = []
-    for i, index in enumerate(indices):
-        s, w = SUBSETS[partition][i], WEIGHTS[size][index]
-        out += [((64 - w) * a + w * b + 32) >> 6 for a, b in zip(shown[2 * s], shown[2 * s + 1])]
-    return out
+    rows = [palette(mode, ends, s, bits_of(mode, p, s)) for s in (0, 1)]
+    return [v for s, index in zip(SUBSETS[partition], indices) for v in rows[s][index]]
 
 
 def distance(a, b):
@@ -86,18 +96,89 @@ def distance(a, b):
     return sum((x - y) ** 2 for x, y in zip(a, b))
 
 
+def sort_block(partition, block):
+    """The pixels of subset 0, then those of subset 1, each in pixel order: the places in use, counted upward."""
+    places = {i + 16 * SUBSETS[partition][i] for i in range(16)}
+    return [block[k % 16] for k in range(32) if k in places]
+
+
+def closest(colours, block):
+    """The indices of pixels and their error. A colour takes a pixel over only where it is nearer than all before it."""
+    indices, error = [], 0
+    for pixel in block:
+        best_index, best_distance = 0, 2 ** 32 - 1
+        for index, colour in enumerate(colours):
+            far = distance(pixel, colour)
+            if far < best_distance:
+                best_index, best_distance = index, far
+        indices.append(best_index)
+        error += best_distance
+    return indices, error
+
+
+def pick_best(choices, trial):
+    """The first choice of least error, with what its trial gives."""
+    best_bits, (best_indices, best_error) = choices[0], trial(choices[0])
+    for bits in choices[1:]:
+        indices, error = trial(bits)
+        if error < best_error:
+            best_bits, best_indices, best_error = bits, indices, error
+    return best_bits, best_indices, best_error
+
+
+def merge2(partition, first, second):
+    """The indices of both subsets in pixel order again."""
+    lists = iter(first), iter(second)
+    return [next(lists[s]) for s in SUBSETS[partition]]
+
+
+def finish(picture, mode, partition, ends, p):
+    """The block and its error. Free p-bits are None."""
+    block = sort_block(partition, [picture[3 * i:3 * i + 3] for i in range(16)])
+    size = SUBSETS[partition].count(0)
+    number, found, total = 0, [], 0
+    for s, own in ((0, block[:size]), (1, block[size:])):
+        choices = ALL[mode] if p is None else (bits_of(mode, p, s),)
+        bits, indices, error = pick_best(choices, lambda bits: closest(palette(mode, ends, s, bits), own))
+        number |= bits[0] << s if mode == 1 else bits[0] << 2 * s | bits[1] << 2 * s + 1
+        found.append(indices)
+        total += error
+    return pack(mode, partition, ends, number, merge2(partition, *found)), total
+
+
+def declined(mode, partition, channel, p):
+    """The checks 3 to 6, by the greatest channel."""
+    if mode not in MODES:
+        return 3
+    bits, n, _ = MODES[mode]
+    limits = ((4, partition, 64), (5, channel, 1 << bits), (6, p, 1 << n))
+    return next((refusal for refusal, value, limit in limits if value >= limit), 0)
+
+
 def call_pack(mode, partition, channel, p, index, size):
     """The refusal of pack, and the bytes that it changes."""
     if size != 16:
         return 2, 0
-    if mode not in MODES:
-        return 3, 0
-    bits, n, wide = MODES[mode]
-    for refusal, value, limit in ((4, partition, 64), (5, channel, 1 << bits), (6, p, 1 << n), (7, index, 1 << wide)):
-        if value >= limit:
-            return refusal, 0
+    refusal = declined(mode, partition, channel, p)
+    if refusal:
+        return refusal, 0
+    if index >> MODES[mode][2]:
+        return 7, 0
     block = pack(mode, partition, [(channel,) * 3] * 4, p, [index] * 16)
     return 0, sum(b != KEPT for b in block)
+
+
+def call_finish(mode, partition, last, p, count, size):
+    """The refusal of finish over black pixels, the error, and the bytes that it changes."""
+    if count != 48:
+        return 1, 0, 0
+    if size != 16:
+        return 2, 0, 0
+    refusal = declined(mode, partition, last, p)
+    if refusal:
+        return refusal, 0, 0
+    block, error = finish([0] * 48, mode, partition, [(0, 0, 0)] * 3 + [(0, 0, last)], p)
+    return 0, error, sum(b != KEPT for b in block)
 
 
 def call_read(first, size, count):
@@ -113,24 +194,53 @@ def call_read(first, size, count):
     return 0, sum(b != KEPT for b in pixels(*read(bytes([first] + [0] * 15)))), 0
 
 
+def draw(seed, count):
+    """The generator's number after so many bytes, and the bytes."""
+    drawn = []
+    for _ in range(count):
+        seed = (seed * 1103515245 + 12345) % 2 ** 31
+        drawn.append(seed >> 16 & 255)
+    return seed, drawn
+
+
 def run(mode):
     """The line of the drawn blocks of a mode."""
     seed, total, differ = mode, 0, 0
     for _ in range(BLOCKS):
-        block = []
-        for _ in range(16):
-            seed = (seed * 1103515245 + 12345) % 2 ** 31
-            block.append(seed >> 16 & 255)
+        seed, block = draw(seed, 16)
         low = 1 << mode
         block = bytes([block[0] // (2 * low) * 2 * low + low] + block[1:])
         fields = read(block)
-        shown = pixels(*fields)
+        picture = pixels(*fields)
         differ += pack(*fields) != block
         _, partition, ends, p, indices = fields
-        far = distance(shown, RAMP)
-        for n in [mode, partition, p] + [v for end in ends for v in end] + indices + shown + [far % 65536, far // 65536]:
+        far = distance(picture, RAMP)
+        for n in [mode, partition, p] + [v for end in ends for v in end] + indices + picture + [far % 65536, far // 65536]:
             total = (total * 31 + n) % 65536
     print('drawn', mode, BLOCKS, differ, total)
+
+
+def put_finished(label, picture, mode, partition, ends, p):
+    """The line of a finished block, whose error is its distance from the picture."""
+    block, error = finish(picture, mode, partition, ends, p)
+    far = distance(picture, pixels(*read(block)))
+    assert far == error
+    print(label, mode, partition, 0, error, 'measured', 0, far, block.hex())
+    return block, error
+
+
+def put_partitions(mode):
+    """Every partition of a mode, with pixels and endpoints of one of four kinds."""
+    kinds = (lambda b: b, lambda b: 96 + b % 8, lambda b: 255 * (b >= 128), lambda b: b % 8)
+    channel, p_bits, _ = MODES[mode]
+    seed = mode
+    for partition in range(64):
+        seed, drawn = draw(seed, 61)
+        shaped = [kinds[partition % 4](b) for b in drawn[:60]]
+        stored = [b >> (8 - channel) for b in shaped[48:]]
+        ends = [tuple(stored[3 * k:3 * k + 3]) for k in range(4)]
+        put_finished('fixed', shaped[:48], mode, partition, ends, drawn[60] % (1 << p_bits))
+        put_finished('free', shaped[:48], mode, partition, ends, None)
 
 
 for mode in (1, 3):
@@ -152,3 +262,38 @@ for case in (
     print('read', refusal, changed, 'measured', refusal, error)
 for mode in (1, 3):
     run(mode)
+ZERO = [(0, 0, 0)] * 4
+# of P1 to P7: every pixel byte, the mode, the channels of endpoint 0, the p-bits, and the specification's bytes and error
+for label, v, mode, channel, p, answer, error in (
+    ('P1', 0, 1, 0, 0, '02' + '00' * 15, 0),
+    ('P2', 0, 3, 0, 0, '08' + '00' * 15, 0),
+    ('P3', 255, 1, 0, 0, '02' + '00' * 15, 3121200),
+    ('P4', 0, 1, 63, 0, '02c00f00c00f00c00f' + '00' * 7, 0),
+    ('P5', 0, 3, 127, 1, '0800fe0000e00f0000fe008000000000', 0),
+    ('P6', 2, 1, 0, None, '02' + '00' * 9 + '03' + '00' * 5, 0),
+    ('P7', 1, 1, 0, None, '02' + '00' * 15, 48),
+):
+    made = put_finished(label, [v] * 48, mode, 0, [(channel,) * 3] + ZERO[1:], p)
+    assert made == (bytes.fromhex(answer), error)
+for case in (
+    (1, 0, 0, 0, 47, 16), (2, 0, 0, 0, 49, 16), (1, 0, 0, 0, 48, 15), (2, 0, 0, 0, 48, 17), (1, 0, 0, 0, 47, 15),
+    (2, 64, 0, 0, 48, 16), (0, 0, 0, 0, 48, 16), (255, 0, 0, 0, 48, 16), (1, 64, 0, 0, 48, 16), (1, 64, 64, 0, 48, 16),
+    (1, 63, 64, 4, 48, 16), (3, 63, 64, 0, 48, 16), (3, 63, 128, 16, 48, 16), (1, 63, 63, 4, 48, 16), (3, 63, 127, 16, 48, 16),
+    (1, 63, 63, 3, 48, 16), (3, 63, 127, 15, 48, 16),
+):
+    print('finish', *call_finish(*case))
+for mode, channel, largest in ((1, 63, 3), (3, 127, 15)):
+    for label, v in (('black', 0), ('white', 255)):
+        for stored, p in ((0, 0), (0, None), (channel, largest), (channel, None)):
+            put_finished(label, [v] * 48, mode, 0, [(stored,) * 3] * 4, p)
+# endpoints stored alike that show 0 and 1: the nearest index is 2, the lower of two, and the exchange makes it 1
+for v, p in ((1, 0b1010), (0, 0b0101)):
+    block, error = finish([v] * 48, 3, 0, ZERO, p)
+    indices = read(block)[4]
+    assert indices == [1] * 16
+    print('indices', bytes(indices).hex(), 0, error, block.hex())
+# the p-bits 01 and 10 of subset 0 both show its two colours, and 01 is kept
+made = put_finished('tie', [0] * 3 + [1] * 3 + [0] * 42, 3, 0, ZERO, None)
+assert made == (bytes.fromhex('08' + '00' * 10 + '8010000000'), 0)
+for mode in (1, 3):
+    put_partitions(mode)

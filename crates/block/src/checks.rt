@@ -89,15 +89,26 @@ pub(crate) fn indices_refusal(mode: u8, indices: &[u8]) -> u8
     if small { 0 } else { 7 }
 }
 
-// 1, 2, 8 and 9, over a pixel part of so many bytes.
-pub(crate) fn read_refusal(block: &[u8], pixels: usize) -> u8
-    ensures { λ r. ⌜ r ≡ checkPixels pixels (checkBlock (now (block .entry)) (checkReadable (now (block .entry)) 0)) ⌝ }
+// 1 and 2: a pixel part and a block part of so many bytes; then what the later checks give.
+pub(crate) fn lengths_refusal(pixels: usize, block: usize, rest: u8) -> u8
+    ensures { λ r. ⌜ r ≡ checkPixels pixels (checkBlock block rest) ⌝ }
 {
     if pixels != 48 {
         return 1;
     }
-    if block.len() != 16 {
+    if block != 16 {
         return 2;
+    }
+    rest
+}
+
+// 1, 2, 8 and 9, over a pixel part of so many bytes.
+pub(crate) fn read_refusal(block: &[u8], pixels: usize) -> u8
+    ensures { λ r. ⌜ r ≡ checkPixels pixels (checkBlock (length (now (block .entry))) (checkReadable (now (block .entry)) 0)) ⌝ }
+{
+    let number = lengths_refusal(pixels, block.len(), 0);
+    if number != 0 {
+        return number;
     }
     let mode = u8::trailing_zeros(block[0]);
     match mode {

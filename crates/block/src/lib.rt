@@ -1,10 +1,12 @@
-// Packing, reading and measuring BC7 blocks of modes 1 and 3.
+// Packing, finishing, reading and measuring BC7 blocks of modes 1 and 3.
 ghost use mathlib.Core.Path.{_≡_};
 ghost use Rattle.bptc_block.specs.PackCall.{packOf, packInto};
+ghost use Rattle.bptc_block.specs.FinishCall.{finishOf, finishInto};
 ghost use Rattle.bptc_block.specs.ReadCall.{unread, readOf, readInto};
 ghost use Rattle.bptc_block.specs.MeasureCall.{measureOf};
 use crate::checks::candidate_refusal;
 use crate::checks::indices_refusal;
+use crate::checks::lengths_refusal;
 use crate::checks::mode_of;
 use crate::checks::read_refusal;
 use crate::colours::colours;
@@ -15,9 +17,11 @@ use bits::writing::write_block;
 pub use bptc::Rgb;
 pub use bptc_block::Candidate;
 pub use bptc_block::Fields;
+pub use bptc_block::Finished;
 pub use bptc_block::Measured;
 pub use bptc_block::PBits;
 pub use bptc_block::Reading;
+use finishing::fields_for;
 
 mod checks;
 mod colours;
@@ -56,6 +60,28 @@ pub fn pack(
     };
     write_block(mode, f, block);
     0
+}
+
+// Finishes pixels with a candidate: the nearest index of every pixel, the first p-bits of least error where they are free, and the block
+// into the lent part. Gives the block's distance from the pixels.
+pub fn finish(pixels: &[u8], candidate: Candidate, block: &mut [u8]) -> Finished
+    ensures answer { λ r. ⌜ r ≡ finishOf (now (pixels .entry)) candidate (now (block .entry)) ⌝ }
+    ensures part { λ _. ⌜ now (block .exit) ≡ finishInto (now (pixels .entry)) candidate (now (block .entry)) ⌝ }
+{
+    let declined = lengths_refusal(pixels.len(), block.len(), candidate_refusal(candidate, 0));
+    if declined != 0 {
+        return Finished {
+            refusal: declined,
+            error: 0,
+        };
+    }
+    let chosen = fields_for(pixels, candidate);
+    let f = chosen.fields;
+    write_block(candidate.mode, f, block);
+    Finished {
+        refusal: 0,
+        error: chosen.error,
+    }
 }
 
 // A reading that is declined: the number, and all else zero.

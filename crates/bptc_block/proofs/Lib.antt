@@ -5,6 +5,7 @@ pub mod Widths
 pub mod Packed
 pub mod Places
 pub mod Turns
+pub mod Trials
 pub mod Modes
 pub mod Flipping
 pub mod Exchanging
@@ -14,4 +15,10 @@ pub mod PackCall
 pub mod ReadCall
 pub mod RoundTrip
 pub mod Distance
+pub mod SubsetLeast
+pub mod Chosen
+pub mod Merged
+pub mod Turned
+pub mod FinishCall
+pub mod Promise
 pub mod Rust

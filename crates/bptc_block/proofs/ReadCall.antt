@@ -80,7 +80,7 @@ module _ (block px : List ℕ) where
     after-lengths : checkReadable block 0 ≡ 0
     unfolding readRefusal
     after-lengths =
-        let e : checkBlock block (checkReadable block 0) ≡ 0 = passed (eqb (length px) 48) 0 _ no-refusal .1 in
+        let e : checkBlock (length block) (checkReadable block 0) ≡ 0 = passed (eqb (length px) 48) 0 _ no-refusal .1 in
         passed (eqb (length block) 16) 1 _ e .1
 
     -- the pixels are 48 bytes
@@ -92,7 +92,7 @@ module _ (block px : List ℕ) where
     pub read-sixteen : length block ≡ 16
     unfolding readRefusal
     read-sixteen =
-        let e : checkBlock block (checkReadable block 0) ≡ 0 = passed (eqb (length px) 48) 0 _ no-refusal .1 in
+        let e : checkBlock (length block) (checkReadable block 0) ≡ 0 = passed (eqb (length px) 48) 0 _ no-refusal .1 in
         eqb-true (length block) 16 (passed (eqb (length block) 16) 1 _ e .0)
 
     -- and its mode is one of the two

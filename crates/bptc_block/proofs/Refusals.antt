@@ -28,6 +28,12 @@ pub passed : (t : Bool) (k rest : ℕ) → unless t (suc k) rest ≡ 0 → (t �
 passed true k rest e = (refl, e)
 passed false k rest e = absurd (omega arith)
 
+-- two checks that decline do so whatever the later ones give
+pub declined : (t u : Bool) (k l rest : ℕ) → (unless t k (unless u l 0) ≡ 0 → ⊥) → unless t k (unless u l 0) ≡ unless t k (unless u l rest)
+declined true true k l rest ne = absurd (ne refl)
+declined true false k l rest ne = refl
+declined false u k l rest ne = refl
+
 -- what the test of a mode says
 pub one-or-three : (n : ℕ) → isMode n ≡ true → (n ≡ 1) ⊎ (n ≡ 3)
 one-or-three n e = go (eqb n 1) refl e

@@ -9,3 +9,11 @@ pub mod Swaps
 pub mod Blocks
 pub mod Packs
 pub mod Writing
+pub mod Trial
+pub mod Merging
+pub mod Closest
+pub mod Handling
+pub mod Subsets
+pub mod Agree
+pub mod Demand2
+pub mod Stays

@@ -11,3 +11,8 @@ pub mod MeasureCall
 pub mod Rust
 pub mod Packs
 pub mod RoundTrip
+pub mod Finish
+pub mod FinishCall
+pub mod Allowed
+pub mod Promise
+pub mod Demand2

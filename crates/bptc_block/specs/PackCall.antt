@@ -2,6 +2,7 @@
 use Prim.Native.Nat.{ℕ}
 use mathlib.Core.List.{List}
 use lib.Dec.{eqb}
+use lib.ListN.{length}
 use Rattle.bptc.specs.Tests.{pick}
 use Rattle.bptc.specs.Mode.{Mode, modeNumbered}
 use Rattle.bptc_block.specs.declared.PBits.the-variants.{Fixed}
@@ -17,7 +18,7 @@ fixedAt mode f = record { mode = mode; partition = f .partition; ends = f .ends;
 
 -- the answer, by checks 2 to 7
 unfoldable pub packOf : ℕ → Fields → List ℕ → ℕ
-packOf mode f block = checkBlock block (checkCandidate (fixedAt mode f) (checkIndices mode (f .indices) 0))
+packOf mode f block = checkBlock (length block) (checkCandidate (fixedAt mode f) (checkIndices mode (f .indices) 0))
 
 -- the part afterwards: the block, or as it was
 unfoldable pub packInto : ℕ → Fields → List ℕ → List ℕ

@@ -14,7 +14,7 @@ use Rattle.bptc_block.specs.Refusal.{checkPixels, checkBlock, checkReada
 
 -- checks 1, 2, 8 and 9
 unfoldable pub readRefusal : List ℕ → List ℕ → ℕ
-readRefusal block px = checkPixels (length px) (checkBlock block (checkReadable block 0))
+readRefusal block px = checkPixels (length px) (checkBlock (length block) (checkReadable block 0))
 
 -- the reading of a mode and its fields
 abbrev pub readingOf : ℕ → Fields → Reading

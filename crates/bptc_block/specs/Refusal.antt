@@ -3,7 +3,7 @@ use Prim.Native.Nat.{ℕ, _-_, _^_}
 use mathlib.Core.Bool.{Bool, true, false}
 use mathlib.Core.List.{List}
 use lib.Dec.{ltb, leb, eqb}
-use lib.ListN.{getD, length}
+use lib.ListN.{getD}
 use Rattle.bptc.specs.declared.Rgb.{Rgb}
 use Rattle.bptc.specs.Tests.{and, or, all}
 use Rattle.bptc.specs.Mode.{Mode, modeNumbered, largest}
@@ -21,9 +21,9 @@ unless false k rest = k
 abbrev pub checkPixels : ℕ → ℕ → ℕ
 checkPixels bytes rest = unless (eqb bytes 48) 1 rest
 
--- 2: the block part is 16 bytes long
-abbrev pub checkBlock : List ℕ → ℕ → ℕ
-checkBlock block rest = unless (eqb (length block) 16) 2 rest
+-- 2: a block part of so many bytes is 16 bytes long
+abbrev pub checkBlock : ℕ → ℕ → ℕ
+checkBlock bytes rest = unless (eqb bytes 16) 2 rest
 
 -- a mode's number is 1 or 3
 abbrev pub isMode : ℕ → Bool

@@ -25,6 +25,12 @@ pub struct Candidate {
     pub p: PBits,
 }
 
+// The answer of `finish`; the block stands in the lent part.
+pub struct Finished {
+    pub refusal: u8,
+    pub error: u32,
+}
+
 // The answer of `read`; the pixels stand in the lent part.
 pub struct Reading {
     pub refusal: u8,

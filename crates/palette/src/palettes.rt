@@ -4,7 +4,7 @@ ghost use Prim.Native.Nat.{ℕ, _^_, _<_, _≤_};
 ghost use mathlib.Core.List.{map};
 ghost use lib.ListN.{getD};
 ghost use Rattle.bptc.specs.Rows.{upFrom};
-ghost use Rattle.bptc.specs.Mode.{mode1, mode3};
+ghost use Rattle.bptc.specs.Mode.{mode1, mode3, modeNumbered};
 ghost use Rattle.bptc.specs.Colour.{black, Below};
 ghost use Rattle.bptc.specs.Shown.{Stored, endShownBy};
 ghost use Rattle.bptc.specs.Palette.{blendedRow, blendedRows, palettes};
@@ -98,5 +98,16 @@ impl Mode3 {
     {
         let shown = ends_shown(Self::CHANNEL_BITS, Self::P_BITS, ends, p);
         rows(&WEIGHTS_2, Self::COLOURS, shown)
+    }
+}
+
+// Both palettes by the mode's number, 1 and else 3. Requires that the endpoints are within the mode's width.
+pub fn palettes(mode: u8, ends: [Rgb; 4], p: u8) -> [[Rgb; 8]; 2]
+    requires { ⌜ Stored (modeNumbered mode) ends ⌝ }
+    ensures { λ r. ⌜ r ≡ palettes (modeNumbered mode) ends p ⌝ }
+{
+    match mode {
+        1 => Mode1::palettes(ends, p),
+        _ => Mode3::palettes(ends, p),
     }
 }

@@ -5,13 +5,13 @@ use native.Mathlib.Numerals.{add-one}
 use native.Mathlib.Omega.{arith}
 use mathlib.Core.Path.{_≡_, sym, ap, _∙_}
 use mathlib.Core.List.{List, [], _∷_, _++_, append-nil, append-assoc}
-use lib.Bits.{or-shifted-r}
+use lib.Bits.{and-mask, or-shifted-r}
 use lib.Pow.{pow-pos, shl-exact, shr-shr, high, low}
 use lib.Seq.{take-suc, length-take-le}
 use lib.ListN.{length, getD, take, replicate, length-append, length-replicate, replicate-append-replicate}
 use Rattle.bptc.specs.Rust.Words.{loop, enumerate}
 use Rattle.bptc_block.specs.Bits.{join}
-use Rattle.bptc_block.specs.Rust.IndexList.{put, index-list}
+use Rattle.bptc_block.specs.Rust.IndexList.{get, put, index-list}
 use Rattle.bptc_block.proofs.Bits.{fits-same, join-lt, join-snoc, sum-replicate}
 
 -- the number of digits, the lowest first: fields of one width
@@ -66,6 +66,11 @@ module _ (I : ℕ) (narrow : I ≤ 3) where
   -- sixteen of them have room
   pub room : (l : ℕ) → l < 16 → I + l * I ≤ 64
   room l h = omega (arith, mul-le-mul-right I (le-pred-of-lt h))
+
+  -- get
+  pub get-digits : (xs : List ℕ) (i : ℕ) → Small I xs → get I (digits I xs) i ≡ getD xs i 0
+  unfolding get
+  get-digits xs i h = rw (one-shl 8 I (omega arith), and-mask) (digit-at I xs i h)
 
   -- set, at the place after the last
   pub put-digits : (xs : List ℕ) (v : ℕ) → length xs < 16 → Small I xs → v < 2 ^ I → put I (digits I xs) (length xs) v ≡ digits I (xs ++ (v ∷ []))

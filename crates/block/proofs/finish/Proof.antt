@@ -1,0 +1,91 @@
+-- `block::finish` meets its contract.
+use Prim.Native.Nat.{ℕ}
+use native.Mathlib.Omega.{arith}
+use mathlib.Core.Path.{_≡_, sym, ap, _∙_}
+use mathlib.Core.List.{List}
+use lib.ListN.{length, length-map}
+use borrow.Author.Needs.{needs}
+use Rattle.bptc_block.specs.declared.Candidate.{Candidate}
+use Rattle.bptc_block.specs.FinishCall.{finishRefusal, finishOf}
+use Rattle.bptc_block.proofs.Refusals.{Good}
+use Rattle.bptc_block.proofs.FinishCall.{finish-number, finish-declined, finish-leaves, finish-answer, finish-block, finish-pixels, finish-sixteen, finish-good}
+use Rattle.bptc_block.proofs.Promise.{fields-plain}
+use Rattle.bptc_block.proofs.Merged.{block-found}
+use Rattle.block.proofs.finish.Statement.{statement}
+use Rattle.block.proofs.finish.Tie as tie
+
+-- the checks, and what holds where they decline nothing
+module _ (c : tie.After-lengths-refusal) where
+  -- the pixels
+  abbrev px : List ℕ
+  px = c .before .before .before .before .args .pixels .now
+
+  -- the candidate
+  abbrev k : Candidate
+  k = c .before .before .before .before .args .candidate
+
+  -- the block part
+  abbrev part : List ℕ
+  part = c .before .before .before .before .args .block .now
+
+  number : c .lengths-refusal .result ≡ finishRefusal px k part
+  unfolding finishRefusal
+  number = rw (c .before .candidate-refusal .ensures) at (c .lengths-refusal .ensures)
+
+  four : length (k .ends) ≡ 4
+  four = sym (length-map (k .ends) _) ∙ c .before .before .before .before .good .1 .0 .1 .1 .1 .1 .0 .1 .0 .1
+
+  module _ (none : c .lengths-refusal .result ≡ 0) where
+    ok : finishOf px k part .refusal ≡ 0
+    ok = finish-number px k part ∙ sym number ∙ none
+
+    fit : Good k
+    fit = finish-good px k part ok
+
+candidate-refusal-requires : tie.Need-candidate-refusal-requires
+candidate-refusal-requires c κs = search needs
+
+lengths-refusal-requires : tie.Need-lengths-refusal-requires
+lengths-refusal-requires c κs = search needs
+
+returns : tie.Need-returns
+returns c =
+    let r = c .before in
+    let ne : finishRefusal (px r) (k r) (part r) ≡ 0 → ⊥ = λ e. c .if1 .taken (number r ∙ e) in
+    (ap (λ (n : ℕ). record { refusal = n; error = 0 }) (number r) ∙ sym (finish-declined (px r) (k r) (part r) ne), sym (finish-leaves (px r) (k r) (part r) ne))
+
+fields-for-requires : tie.Need-fields-for-requires
+fields-for-requires c κs =
+    let r = c .before in
+    let none : r .lengths-refusal .result ≡ 0 = omega arith in
+    (finish-pixels (px r) (k r) (part r) (ok r none), (fit r none .partition, (λ j h. fit r none .stored j (omega (arith, four r)))))
+
+write-block-requires : tie.Need-write-block-requires
+write-block-requires c κs =
+    let r = c .before .before .before .before in
+    let none : r .lengths-refusal .result ≡ 0 = omega arith in
+    (rw (c .before .before .fields-for .ensures .0) (fields-plain (px r) (k r) (fit r none) (four r)), finish-sixteen (px r) (k r) (part r) (ok r none))
+
+same-length : tie.Need-same-length
+same-length c = search needs
+
+returns-2 : tie.Need-returns-2
+returns-2 c =
+    let found = c .before .before .before .before .before in
+    let r = found .before .before in
+    let none : r .lengths-refusal .result ≡ 0 = omega arith in (
+      ap (λ (n : ℕ). record { refusal = 0; error = n }) (found .fields-for .ensures .1) ∙ sym (finish-answer (px r) (k r) (part r) (ok r none)),
+      c .before .before .write-block .ensures ∙ rw (found .fields-for .ensures .0) (block-found (px r) (k r) ∙ sym (finish-block (px r) (k r) (part r) (ok r none))),
+    )
+
+pub finish-spec : {M : Type 1} → statement M
+finish-spec =
+    tie.close
+    (tie.spec
+    candidate-refusal-requires
+    lengths-refusal-requires
+    returns
+    fields-for-requires
+    write-block-requires
+    same-length
+    returns-2)

@@ -1,0 +1,104 @@
+-- The p-bits of the trial: those of one subset stand apart from the other's, and the trial leaves none out.
+use Prim.Native.Nat.{ℕ, _+_, _*_, _^_, _<_}
+use native.Mathlib.Omega.{arith}
+use mathlib.Core.Path.{_≡_, refl}
+use mathlib.Core.Bool.{Bool}
+use mathlib.Core.List.{List, [], _∷_, List·Memᴰ}
+use lib.Dec.{T, eqb, ltb, eqb→eq, ltb→lt}
+use borrow.Author.Tests.{ne-eqb}
+use Rattle.bptc.specs.declared.Rgb.{Rgb}
+use Rattle.bptc.specs.Tests.{and, all}
+use Rattle.bptc.specs.Rows.{upFrom}
+use Rattle.bptc.specs.Least.{firstLeast}
+use Rattle.bptc.specs.Mode.{Mode, mode1, mode3, modeNumbered}
+use Rattle.bptc.specs.Shown.{pBit}
+use Rattle.bptc.specs.Closest.{closestIn}
+use Rattle.bptc.proofs.Tests.{and-left, and-right}
+use Rattle.bptc.proofs.Tables.{tested, all-of, any, any-of}
+use Rattle.bptc_block.specs.Finish.{otherBits, bitsFor, joinedBits}
+
+-- the p-bits that are tried, in their order
+abbrev pub choices : Mode → List ℕ
+choices m = 0 ∷ otherBits m
+
+-- p and q agree in subset s
+pub record Same (m : Mode) (s p q : ℕ) : Type 0 where
+  pub low : pBit m p (2 * s) ≡ pBit m q (2 * s)
+  pub high : pBit m p (2 * s + 1) ≡ pBit m q (2 * s + 1)
+
+-- one that is tried agrees with p in subset s
+abbrev pub Found : Mode → ℕ → ℕ → Type 0
+Found m s p = (q : ℕ) × List·Memᴰ q (choices m) × Same m s q p
+
+-- what the laws of the trial ask of a mode
+pub record Trials (m : Mode) : Type 0 where
+  -- joined p-bits are each subset's own, and no more bits than those
+  pub first : (p q : ℕ) → Same m 0 p (joinedBits m p q)
+  pub second : (p q : ℕ) → Same m 1 q (joinedBits m p q)
+  pub fits : (p q : ℕ) → p < 2 ^ m .pBits → q < 2 ^ m .pBits → joinedBits m p q < 2 ^ m .pBits
+  -- those that are tried are within the mode's bits, and whatever p-bits a subset may have are among them
+  pub tried : (q : ℕ) → List·Memᴰ q (choices m) → q < 2 ^ m .pBits
+  pub complete : (s p : ℕ) → s < 2 → p < 2 ^ m .pBits → Found m s p
+
+-- the test of `Same`
+abbrev sameTest : Mode → ℕ → ℕ → ℕ → Bool
+sameTest m s p q = and (eqb (pBit m p (2 * s)) (pBit m q (2 * s))) (eqb (pBit m p (2 * s + 1)) (pBit m q (2 * s + 1)))
+
+-- the test of `Found`
+abbrev foundTest : Mode → ℕ → ℕ → Bool
+foundTest m s p = any (λ (q : ℕ). sameTest m s q p) (choices m)
+
+same-of : (m : Mode) (s p q : ℕ) → T (sameTest m s p q) → Same m s p q
+same-of m s p q t =
+    record {
+      low = eqb→eq _ _ (and-left (eqb (pBit m p (2 * s)) (pBit m q (2 * s))) _ t);
+      high = eqb→eq _ _ (and-right (eqb (pBit m p (2 * s)) (pBit m q (2 * s))) _ t);
+    }
+
+found-of : (m : Mode) (s p : ℕ) → T (foundTest m s p) → Found m s p
+found-of m s p t =
+    let (q, h, u) = any-of (λ (q : ℕ). sameTest m s q p) (choices m) t in
+    (q, h, same-of m s q p u)
+
+-- every number of the mode's p-bits is found
+abbrev wholeTest : Mode → ℕ → Bool
+wholeTest m s = all (foundTest m s) (upFrom 0 (2 ^ m .pBits))
+
+-- mode 1
+pub trials1 : Trials mode1
+unfolding otherBits joinedBits
+trials1 =
+    record {
+      first = λ p q. record { low = omega arith; high = omega arith };
+      second = λ p q. record { low = omega arith; high = omega arith };
+      fits = λ p q h l. omega arith;
+      tried = λ q h. ltb→lt _ _ (all-of (λ (q : ℕ). ltb q 4) (choices mode1) tt q h);
+      complete = λ s p h l. found-of mode1 s p (tested (foundTest mode1 s) 4 (tested (wholeTest mode1) 2 tt s h) p l);
+    }
+
+-- mode 3
+pub trials3 : Trials mode3
+unfolding otherBits joinedBits
+trials3 =
+    record {
+      first = λ p q. record { low = omega arith; high = omega arith };
+      second = λ p q. record { low = omega arith; high = omega arith };
+      fits = λ p q h l. omega arith;
+      tried = λ q h. ltb→lt _ _ (all-of (λ (q : ℕ). ltb q 16) (choices mode3) tt q h);
+      complete = λ s p h l. found-of mode3 s p (tested (foundTest mode3 s) 16 (tested (wholeTest mode3) 2 tt s h) p l);
+    }
+
+-- by a mode's number, the p-bits that are tried after 0: in mode 1
+pub shared-bits : (mode : ℕ) → mode ≡ 1 → otherBits (modeNumbered mode) ≡ 0b11 ∷ []
+unfolding otherBits
+shared-bits mode e = rw e
+
+-- and in mode 3
+pub unique-bits : (mode : ℕ) → (mode ≡ 1 → ⊥) → otherBits (modeNumbered mode) ≡ 0b1010 ∷ (0b0101 ∷ (0b1111 ∷ []))
+unfolding otherBits
+unique-bits mode ne = rw (ne-eqb mode 1 ne)
+
+-- what a subset keeps is the first of least error by closest_rgb
+pub bits-tried : (m : Mode) (part : ℕ) (ends cs : List Rgb) (s : ℕ) → bitsFor m part ends cs s ≡ firstLeast (λ (p : ℕ). closestIn m part ends p s cs .error) 0 (otherBits m)
+unfolding bitsFor
+bits-tried m part ends cs s = refl
