@@ -1,19 +1,31 @@
--- Laws of a block's distance: it is that of the colours, and 0 exactly when every pixel equals the block's colour there.
-use Prim.Native.Nat.{ℕ}
+-- Laws of a block's distance: it is that of the colours, at most 3,121,200, kept by an exchange, and 0 exactly when every pixel equals
+-- the block's colour there.
+use Prim.Native.Nat.{ℕ, _≤_, _<_}
+use native.Mathlib.Omega.{arith}
 use mathlib.Core.Path.{_≡_, refl, sym, ap, _∙_}
+use mathlib.Core.Logic.{_⊎_}
 use mathlib.Core.List.{List}
 use lib.ListN.{getD}
+use Rattle.bptc.specs.declared.Rgb.{Rgb}
 use Rattle.bptc.specs.Rows.{overPixels}
 use Rattle.bptc.specs.Mode.{Mode, modeNumbered}
-use Rattle.bptc.specs.Colour.{black, coloursOf, distSq}
+use Rattle.bptc.specs.Partition.{subsetOf}
+use Rattle.bptc.specs.Colour.{black, coloursOf, distSq, Below}
 use Rattle.bptc.proofs.Rows.{getD-each}
-use Rattle.bptc.proofs.Sums.{pixels-same, pixels-zero, pixels-none}
-use Rattle.bptc.proofs.ColourBounds.{dist-zero, dist-self}
+use Rattle.bptc.proofs.Sums.{pixels-same, pixels-zero, pixels-none, pixels-most}
+use Rattle.bptc.proofs.PartitionRule.{subset-two}
+use Rattle.bptc.proofs.ColourBounds.{dist-zero, dist-self, dist-byte}
+use Rattle.bptc.proofs.Shading.{palette-byte}
 use Rattle.bptc_block.specs.declared.Fields.{Fields}
-use Rattle.bptc_block.specs.Packed.{modeOf, fieldsOf}
+use Rattle.bptc_block.specs.Fields.{Plain}
+use Rattle.bptc_block.specs.Packed.{modeOf, fieldsOf, packed}
 use Rattle.bptc_block.specs.Chapter.{colourAt, colours, apartAt, apart, distance}
+use Rattle.bptc_block.specs.Exchange.{compressed}
 use Rattle.bptc_block.specs.RoundTrip.{SameColours, MeasuredZero}
+use Rattle.bptc_block.proofs.Modes.{Lawful, lawful}
+use Rattle.bptc_block.proofs.Exchanging.{compressed-colour}
 use Rattle.bptc_block.proofs.ReadCall.{readable, measure-answer}
+use Rattle.bptc_block.proofs.RoundTrip.{pack-mode, pack-fields}
 
 -- the distance of the sixteen colours
 pub distance-colours : (px block : List ℕ) → distance px block
@@ -23,6 +35,28 @@ distance-colours px block =
     let m : Mode = modeNumbered (modeOf block) in
     let f : Fields = fieldsOf m block in
     pixels-same _ _ (λ i h. ap (distSq (getD (coloursOf px) i black)) (sym (getD-each black (colourAt m f) 16 i h)))
+
+-- the greatest distance, 16 × 195,075
+pub apart-small : (m : Mode) → Lawful m → (cs : List Rgb) (f : Fields) → Plain m f → ((i : ℕ) → Below 256 (getD cs i black)) → apart m cs f ≤ 3121200
+unfolding apart apartAt colourAt
+apart-small m law cs f plain bytes =
+    pixels-most _ 195075
+    (λ i h.
+    dist-byte _ _ (bytes i)
+    (palette-byte m (law .shades) (f .ends) (f .p) (subsetOf (f .partition) i) (getD (f .indices) i 0) (subset-two (f .partition) i) (omega (arith, plain .indices i h)) (plain .channels)))
+
+-- the same colours lie equally far
+apart-same : (m : Mode) (cs : List Rgb) (f g : Fields) → ((i : ℕ) → i < 16 → colourAt m f i ≡ colourAt m g i) → apart m cs f ≡ apart m cs g
+unfolding apart apartAt
+apart-same m cs f g h = pixels-same _ _ (λ i l. ap (distSq (getD cs i black)) (h i l))
+
+-- a packed block lies as far as the fields before any exchange
+pub pack-distance : (mode : ℕ) (f : Fields) (known : (mode ≡ 1) ⊎ (mode ≡ 3)) → Plain (modeNumbered mode) f → (px : List ℕ) →
+    distance px (packed (modeNumbered mode) (compressed (modeNumbered mode) f)) ≡ apart (modeNumbered mode) (coloursOf px) f
+unfolding distance
+pack-distance mode f known plain px =
+    let m : Mode = modeNumbered mode in
+    rw (pack-mode mode f known plain, pack-fields mode f known plain) (apart-same m (coloursOf px) (compressed m f) f (compressed-colour m (lawful mode) f plain))
 
 -- a distance of 0, pixel by pixel
 module _ (block px : List ℕ) where

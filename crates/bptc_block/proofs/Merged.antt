@@ -1,4 +1,4 @@
--- What finishing packs, put together from what closest_rgb finds in each subset.
+-- What finishing packs, put together from what closest_rgb finds in each subset, and that it is in range.
 use Prim.Native.Nat.{ℕ, _+_, _<_}
 use native.Mathlib.Omega.{arith}
 use mathlib.Core.Path.{_≡_, refl, sym, _∙_}
@@ -6,7 +6,7 @@ use mathlib.Core.Bool.{Bool, true, false}
 use mathlib.Core.List.{List, map}
 use lib.Bits.{bitOr, or-zero-l, or-zero-r}
 use lib.Dec.{eqb}
-use lib.ListN.{getD}
+use lib.ListN.{length, getD}
 use borrow.Author.Tests.{eqb-true, eqb-false}
 use Rattle.bptc.specs.declared.Rgb.{Rgb}
 use Rattle.bptc.specs.declared.Closest.{Closest}
@@ -21,12 +21,14 @@ use Rattle.bptc.proofs.Rows.{getD-each, each-same}
 use Rattle.bptc.proofs.PartitionRule.{subset-two}
 use Rattle.bptc_block.specs.declared.PBits.{PBits}
 use Rattle.bptc_block.specs.declared.Candidate.{Candidate}
+use Rattle.bptc_block.specs.Fields.{Plain}
 use Rattle.bptc_block.specs.Packed.{packed}
 use Rattle.bptc_block.specs.Chapter.{apart}
 use Rattle.bptc_block.specs.Exchange.{compressed}
 use Rattle.bptc_block.specs.Finish.{bitsIn, joinedBits, chosenBits, fieldsAt, chosenFields, fieldsFor, finish}
 use Rattle.bptc_block.proofs.Modes.{Lawful, lawful}
-use Rattle.bptc_block.proofs.Chosen.{own-bits, by-subset, each-nearest}
+use Rattle.bptc_block.proofs.Refusals.{Good}
+use Rattle.bptc_block.proofs.Chosen.{own-bits, by-subset, each-nearest, chosen-plain}
 
 -- of two figures, each 0 outside its subset, one is 0
 subset-or : (part i : ℕ) (f g : ℕ → ℕ) → bitOr (inSubset part 0 f i) (inSubset part 1 g i) ≡ pick (eqb (subsetOf part i) 0) (f i) (g i)
@@ -97,3 +99,10 @@ module _ (px : List ℕ) (c : Candidate) where
   pub block-found : packed mode (compressed mode (fieldsFor px c)) ≡ finish px c .block
   unfolding finish
   block-found = refl
+
+  -- these fields are in range where the checks accept the candidate
+  pub fields-plain : Good c → length (c .ends) ≡ 4 → Plain mode (fieldsFor px c)
+  unfolding fieldsFor
+  fields-plain fit four =
+      chosen-plain mode (lawful (c .mode)) (c .partition) (c .ends) (coloursOf px) (c .p) (fit .partition) four
+      (λ k h. fit .stored k (omega arith)) (fit .p)

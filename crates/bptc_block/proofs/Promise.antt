@@ -2,22 +2,16 @@
 use Prim.Native.Nat.{ℕ, _≤_, _<_}
 use native.Mathlib.Omega.{arith}
 use mathlib.Core.Path.{_≡_, sym, ap, _∙_, subst}
-use mathlib.Core.Logic.{_⊎_}
 use mathlib.Core.List.{List}
-use lib.ListN.{length, getD}
-use Rattle.bptc.specs.declared.Rgb.{Rgb}
+use lib.ListN.{length}
 use Rattle.bptc.specs.Mode.{Mode, modeNumbered}
-use Rattle.bptc.specs.Partition.{subsetOf}
-use Rattle.bptc.specs.Colour.{black, Below, coloursOf, distSq}
-use Rattle.bptc.proofs.Sums.{pixels-same, pixels-most}
-use Rattle.bptc.proofs.PartitionRule.{subset-two}
-use Rattle.bptc.proofs.ColourBounds.{pixels-shown, dist-byte}
-use Rattle.bptc.proofs.Shading.{palette-byte}
+use Rattle.bptc.specs.Colour.{coloursOf}
+use Rattle.bptc.proofs.ColourBounds.{pixels-shown}
 use Rattle.bptc_block.specs.declared.Candidate.{Candidate}
 use Rattle.bptc_block.specs.declared.Fields.{Fields}
 use Rattle.bptc_block.specs.Fields.{Plain}
 use Rattle.bptc_block.specs.Packed.{packed, fieldsOf}
-use Rattle.bptc_block.specs.Chapter.{colourAt, apartAt, apart, distance}
+use Rattle.bptc_block.specs.Chapter.{distance}
 use Rattle.bptc_block.specs.Exchange.{compressed}
 use Rattle.bptc_block.specs.Finish.{fieldsAt, chosenFields, fieldsFor, finish}
 use Rattle.bptc_block.specs.ReadCall.{readOf}
@@ -27,35 +21,15 @@ use Rattle.bptc_block.specs.Promise.{FinishPromise, FinishKeeps, Measure
 use Rattle.bptc_block.proofs.Widths.{plain-of}
 use Rattle.bptc_block.proofs.Packed.{packed-length, packed-bytes, well-formed}
 use Rattle.bptc_block.proofs.Modes.{Lawful, lawful}
-use Rattle.bptc_block.proofs.Exchanging.{compressed-colour, compressed-partition}
-use Rattle.bptc_block.proofs.Chosen.{optimal, chosen-plain}
+use Rattle.bptc_block.proofs.Exchanging.{compressed-partition}
+use Rattle.bptc_block.proofs.Chosen.{optimal}
+use Rattle.bptc_block.proofs.Distance.{apart-small, pack-distance}
+use Rattle.bptc_block.proofs.Merged.{fields-plain}
 use Rattle.bptc_block.proofs.Turned.{Turned, turned₀, turned₁, same-subset}
 use Rattle.bptc_block.proofs.Refusals.{Good}
 use Rattle.bptc_block.proofs.ReadCall.{readable, measure-answer}
 use Rattle.bptc_block.proofs.RoundTrip.{pack-mode, pack-fields}
 use Rattle.bptc_block.proofs.FinishCall.{finish-answer, finish-block, finish-pixels, finish-good}
-
--- the greatest distance, 16 × 195,075
-pub apart-small : (m : Mode) → Lawful m → (cs : List Rgb) (f : Fields) → Plain m f → ((i : ℕ) → Below 256 (getD cs i black)) → apart m cs f ≤ 3121200
-unfolding apart apartAt colourAt
-apart-small m law cs f plain bytes =
-    pixels-most _ 195075
-    (λ i h.
-    dist-byte _ _ (bytes i)
-    (palette-byte m (law .shades) (f .ends) (f .p) (subsetOf (f .partition) i) (getD (f .indices) i 0) (subset-two (f .partition) i) (omega (arith, plain .indices i h)) (plain .channels)))
-
--- the same colours lie equally far
-apart-same : (m : Mode) (cs : List Rgb) (f g : Fields) → ((i : ℕ) → i < 16 → colourAt m f i ≡ colourAt m g i) → apart m cs f ≡ apart m cs g
-unfolding apart apartAt
-apart-same m cs f g h = pixels-same _ _ (λ i l. ap (distSq (getD cs i black)) (h i l))
-
--- a packed block lies as far as the fields before any exchange
-pack-distance : (mode : ℕ) (f : Fields) (known : (mode ≡ 1) ⊎ (mode ≡ 3)) → Plain (modeNumbered mode) f → (px : List ℕ) →
-    distance px (packed (modeNumbered mode) (compressed (modeNumbered mode) f)) ≡ apart (modeNumbered mode) (coloursOf px) f
-unfolding distance
-pack-distance mode f known plain px =
-    let m : Mode = modeNumbered mode in
-    rw (pack-mode mode f known plain, pack-fields mode f known plain) (apart-same m (coloursOf px) (compressed m f) f (compressed-colour m (lawful mode) f plain))
 
 -- of a candidate that its checks accept
 module _ (px : List ℕ) (c : Candidate) (fit : Good c) (four : length (c .ends) ≡ 4) where
@@ -67,27 +41,23 @@ module _ (px : List ℕ) (c : Candidate) (fit : Good c) (four : length (c .ends)
   abbrev f : Fields
   f = fieldsFor px c
 
-  -- what it packs is in range
-  pub fields-plain : Plain m f
-  unfolding fieldsFor
-  fields-plain =
-      chosen-plain m (lawful (c .mode)) (c .partition) (c .ends) (coloursOf px) (c .p) (fit .partition) four
-      (λ k h. fit .stored k (omega arith)) (fit .p)
+  plain : Plain m f
+  plain = fields-plain px c fit four
 
   allowed : Allowed c (finish px c .block)
   unfolding finish fieldsFor chosenFields fieldsAt
   allowed =
       let law : Lawful m = lawful (c .mode) in
-      let e : fieldsOf m (packed m (compressed m f)) ≡ compressed m f = pack-fields (c .mode) f (fit .mode) fields-plain in
+      let e : fieldsOf m (packed m (compressed m f)) ≡ compressed m f = pack-fields (c .mode) f (fit .mode) plain in
       let same : (s : ℕ) → s < 2 → Turned m f (compressed m f) s → SameSubset m (fieldsOf m (packed m (compressed m f))) (c .ends) (c .p) s =
       λ s h t. subst (λ (g : Fields). SameSubset m g (c .ends) (c .p) s) (sym e) (same-subset m law (c .partition) (c .ends) (coloursOf px) (c .p) (compressed m f) s h t) in
       record {
         sixteen = packed-length m (compressed m f);
         bytes = packed-bytes m (compressed m f);
-        mode = pack-mode (c .mode) f (fit .mode) fields-plain;
-        partition = ap (λ (g : Fields). g .partition) e ∙ compressed-partition m law f fields-plain;
-        first = same 0 (omega arith) (turned₀ m law f fields-plain);
-        second = same 1 (omega arith) (turned₁ m law f fields-plain);
+        mode = pack-mode (c .mode) f (fit .mode) plain;
+        partition = ap (λ (g : Fields). g .partition) e ∙ compressed-partition m law f plain;
+        first = same 0 (omega arith) (turned₀ m law f plain);
+        second = same 1 (omega arith) (turned₁ m law f plain);
       }
 
   closest : (block : List ℕ) → Allowed c block → finish px c .error ≤ distance px block
@@ -101,10 +71,10 @@ module _ (px : List ℕ) (c : Candidate) (fit : Good c) (four : length (c .ends)
   unfolding finish
   promise =
       record {
-        exact = sym (pack-distance (c .mode) f (fit .mode) fields-plain px);
+        exact = sym (pack-distance (c .mode) f (fit .mode) plain px);
         closest = closest;
         allowed = allowed;
-        bound = λ h. apart-small m (lawful (c .mode)) (coloursOf px) f fields-plain (pixels-shown px h);
+        bound = λ h. apart-small m (lawful (c .mode)) (coloursOf px) f plain (pixels-shown px h);
       }
 
 -- the call

@@ -64,29 +64,28 @@ found-of m s p t =
 abbrev wholeTest : Mode → ℕ → Bool
 wholeTest m s = all (foundTest m s) (upFrom 0 (2 ^ m .pBits))
 
+-- from what holds of joined p-bits and two tests
+trials-of : (m : Mode) → ((p q : ℕ) → Same m 0 p (joinedBits m p q) × Same m 1 q (joinedBits m p q)) →
+    ((p q : ℕ) → p < 2 ^ m .pBits → q < 2 ^ m .pBits → joinedBits m p q < 2 ^ m .pBits) →
+    T (all (λ (q : ℕ). ltb q (2 ^ m .pBits)) (choices m)) → T (all (wholeTest m) (upFrom 0 2)) → Trials m
+trials-of m joined fits t u =
+    record {
+      first = λ p q. joined p q .0;
+      second = λ p q. joined p q .1;
+      fits = fits;
+      tried = λ q h. ltb→lt _ _ (all-of (λ (q : ℕ). ltb q (2 ^ m .pBits)) (choices m) t q h);
+      complete = λ s p h l. found-of m s p (tested (foundTest m s) (2 ^ m .pBits) (tested (wholeTest m) 2 u s h) p l);
+    }
+
 -- mode 1
 pub trials1 : Trials mode1
 unfolding otherBits joinedBits
-trials1 =
-    record {
-      first = λ p q. record { low = omega arith; high = omega arith };
-      second = λ p q. record { low = omega arith; high = omega arith };
-      fits = λ p q h l. omega arith;
-      tried = λ q h. ltb→lt _ _ (all-of (λ (q : ℕ). ltb q 4) (choices mode1) tt q h);
-      complete = λ s p h l. found-of mode1 s p (tested (foundTest mode1 s) 4 (tested (wholeTest mode1) 2 tt s h) p l);
-    }
+trials1 = trials-of mode1 (λ p q. (record { low = omega arith; high = omega arith }, record { low = omega arith; high = omega arith })) (λ p q h l. omega arith) tt tt
 
 -- mode 3
 pub trials3 : Trials mode3
 unfolding otherBits joinedBits
-trials3 =
-    record {
-      first = λ p q. record { low = omega arith; high = omega arith };
-      second = λ p q. record { low = omega arith; high = omega arith };
-      fits = λ p q h l. omega arith;
-      tried = λ q h. ltb→lt _ _ (all-of (λ (q : ℕ). ltb q 16) (choices mode3) tt q h);
-      complete = λ s p h l. found-of mode3 s p (tested (foundTest mode3 s) 16 (tested (wholeTest mode3) 2 tt s h) p l);
-    }
+trials3 = trials-of mode3 (λ p q. (record { low = omega arith; high = omega arith }, record { low = omega arith; high = omega arith })) (λ p q h l. omega arith) tt tt
 
 -- by a mode's number, the p-bits that are tried after 0: in mode 1
 pub shared-bits : (mode : ℕ) → mode ≡ 1 → otherBits (modeNumbered mode) ≡ 0b11 ∷ []

@@ -9,8 +9,7 @@ use Rattle.bptc_block.specs.declared.Candidate.{Candidate}
 use Rattle.bptc_block.specs.FinishCall.{finishRefusal, finishOf}
 use Rattle.bptc_block.proofs.Refusals.{Good}
 use Rattle.bptc_block.proofs.FinishCall.{finish-number, finish-declined, finish-leaves, finish-answer, finish-block, finish-pixels, finish-sixteen, finish-good}
-use Rattle.bptc_block.proofs.Promise.{fields-plain}
-use Rattle.bptc_block.proofs.Merged.{block-found}
+use Rattle.bptc_block.proofs.Merged.{block-found, fields-plain}
 use Rattle.block.proofs.finish.Statement.{statement}
 use Rattle.block.proofs.finish.Tie as tie
 

@@ -12,7 +12,8 @@ use Rattle.bptc_block.specs.Finish.{fieldsFor, finish}
 use Rattle.bptc_block.specs.Rust.Compressed.{Compressed}
 use Rattle.bptc_block.specs.Demand2.{CandidateInRange, rustOf}
 use Rattle.bptc_block.proofs.Modes.{lawful}
-use Rattle.bptc_block.proofs.Promise.{apart-small, fields-plain}
+use Rattle.bptc_block.proofs.Distance.{apart-small}
+use Rattle.bptc_block.proofs.Merged.{fields-plain}
 use Rattle.bptc_block.proofs.Rust.Demand2.{in-range-good, finish-rust}
 
 -- the errors of both subsets together, in u32
