@@ -1,30 +1,25 @@
 -- The search over the rows, numbers and marks that the code makes is closest_rgb over a subset's pixels and palette.
-use Prim.Native.Nat.{ℕ, _≤_, _<_}
+use Prim.Native.Nat.{ℕ, _<_}
 use native.Mathlib.Omega.{arith}
 use mathlib.Core.Path.{_≡_, ap, _∙_}
 use mathlib.Core.List.{List, []}
 use lib.Dec.{eqb}
 use lib.ListN.{getD, length}
-use borrow.Author.Tests.{eqb-true}
 use Rattle.bptc.specs.declared.Rgb.{Rgb}
 use Rattle.bptc.specs.Tests.{pick}
 use Rattle.bptc.specs.Bytes.{Bytes}
 use Rattle.bptc.specs.Mode.{Mode, largest}
 use Rattle.bptc.specs.Partition.{maskOf, subsetOf}
 use Rattle.bptc.specs.Colour.{black, Below, coloursOf, distSq}
-use Rattle.bptc.specs.Shown.{Stored}
 use Rattle.bptc.specs.Palette.{paletteAt, palettes}
 use Rattle.bptc.specs.Nearest.{nearest}
 use Rattle.bptc.specs.Pixels.{pixelWord, pixelOf, pixelAt, pixelWords, membersOf, atMember, overMembers}
 use Rattle.bptc.specs.Closest.{nearestIn, closestOf, inSubset, closestIn}
-use Rattle.bptc.proofs.Tests.{pick-elim}
 use Rattle.bptc.proofs.Rows.{getD-map, each-same}
-use Rattle.bptc.proofs.Sums.{pixels-same, pixels-most}
-use Rattle.bptc.proofs.PartitionRule.{subset-two}
-use Rattle.bptc.proofs.ColourBounds.{rgb-eq, pixels-shown, colours-length, dist-byte}
-use Rattle.bptc.proofs.Modes.{Shades}
+use Rattle.bptc.proofs.Sums.{pixels-same}
+use Rattle.bptc.proofs.ColourBounds.{rgb-eq, pixels-shown, colours-length}
 use Rattle.bptc.proofs.NearestIndex.{same-by, nearest-small}
-use Rattle.bptc.proofs.Shading.{palettes-at, palette-byte}
+use Rattle.bptc.proofs.Shading.{palettes-at}
 use Rattle.bptc.proofs.Marked.{at-subset}
 
 -- a pixel's number stands for the pixel
@@ -68,15 +63,3 @@ module _ (m : Mode) (ends : List Rgb) (p s : ℕ) (two : s < 2) where
         indices = each-same 0 (atMember members index) (inSubset part s _) 16 (own index _ index-same) t;
         error = pixels-same (atMember members apart) (inSubset part s _) (own apart _ apart-same) t;
       }
-
--- the error of a subset is at most 16 × 195,075, and so is every sum on the way to it
-pub closest-small : (m : Mode) → Shades m → (part : ℕ) (ends cs : List Rgb) → Stored m ends → ((i : ℕ) → Below 256 (getD cs i black)) → (p s : ℕ) → closestIn m part ends p s cs .error ≤ 3121200
-unfolding closestIn
-closest-small m shades part ends cs stored bytes p s =
-    pixels-most _ 195075
-    (λ i h.
-    pick-elim (λ (n : ℕ). n ≤ 195075) (eqb (subsetOf part i) s)
-    (λ t.
-    dist-byte _ _ (bytes i)
-    (palette-byte m shades ends p s _ (omega (arith, eqb-true (subsetOf part i) s t, subset-two part i)) (nearest-small m ends p s (getD cs i black)) stored))
-    (λ t. omega arith))

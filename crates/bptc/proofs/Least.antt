@@ -1,16 +1,24 @@
 -- Laws of the first of least error: it is no worse than any, it is one of them, and it is the earliest such.
 use Prim.Native.Nat.{ℕ, _≤_, _<_}
 use mathlib.Core.Path.{_≡_, refl, ap, ap₂, _∙_}
-use mathlib.Core.Bool.{Bool}
+use mathlib.Core.Bool.{Bool, true, false}
 use mathlib.Core.Logic.{inl, inr}
 use mathlib.Core.List.{List, [], _∷_, _++_, List·Memᴰ, List·Memᴰ·head, List·Memᴰ·tail, List·Memᴰ·cases-cons, List·Memᴰ·not-nil}
 use native.Mathlib.Nat.{le-refl, le-trans}
 use native.Mathlib.Omega.{arith}
-use lib.Dec.{leb}
-use borrow.Author.Tests.{leb-true, leb-false, le-leb}
+use lib.Dec.{leb, ltb}
+use borrow.Author.Tests.{leb-true, leb-false, le-leb, lt-ltb, le-ltb}
 use Rattle.bptc.specs.Tests.{pick}
 use Rattle.bptc.specs.Least.{firstLeast, Earliest}
 use Rattle.bptc.proofs.Tests.{pick-elim}
+
+-- a strict test that takes the later keeps the earlier at equal error
+pub strict {ℓ} : {A : Type ℓ} (a b : ℕ) (x y : A) → pick (ltb b a) y x ≡ pick (leb a b) x y
+strict a b x y = go (leb a b) refl
+  where
+    go : (t : Bool) → leb a b ≡ t → pick (ltb b a) y x ≡ pick t x y
+    go true e = rw (le-ltb b a (leb-true a b e))
+    go false e = rw (lt-ltb b a (leb-false a b e))
 
 -- errors that agree choose the same
 pub least-same : {A : Type 0} (f g : A → ℕ) (xs : List A) (best : A) → ((x : A) → List·Memᴰ x (best ∷ xs) → f x ≡ g x) → firstLeast f best xs ≡ firstLeast g best xs

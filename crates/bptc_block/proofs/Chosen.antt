@@ -14,7 +14,7 @@ use Rattle.bptc.specs.declared.Rgb.{Rgb}
 use Rattle.bptc.specs.Tests.{pick}
 use Rattle.bptc.specs.Mode.{Mode, largest}
 use Rattle.bptc.specs.Partition.{subsetOf}
-use Rattle.bptc.specs.Colour.{black}
+use Rattle.bptc.specs.Colour.{black, Below}
 use Rattle.bptc.specs.Shown.{pBit, endShown, Stored}
 use Rattle.bptc.specs.Nearest.{nearest}
 use Rattle.bptc.specs.Closest.{closestIn}
@@ -37,6 +37,7 @@ use Rattle.bptc_block.specs.Allowed.{SameSubset}
 use Rattle.bptc_block.proofs.Turns.{exchanged-low, exchanged-high}
 use Rattle.bptc_block.proofs.Trials.{choices, Same}
 use Rattle.bptc_block.proofs.Modes.{Lawful}
+use Rattle.bptc_block.proofs.Distance.{apart-small}
 use Rattle.bptc_block.proofs.SubsetLeast.{Alike, apartIn, closest-apart, subset-least}
 
 module _ (m : Mode) (law : Lawful m) (part : ℕ) (ends cs : List Rgb) where
@@ -77,6 +78,17 @@ module _ (m : Mode) (law : Lawful m) (part : ℕ) (ends cs : List Rgb) where
   same-apart s p q e =
       rw (closest-apart m law part ends cs p s) (subset-least m law part ends cs (at p) q s refl (at-small p) (inl (same-ends s p q e)))
 
+  -- so at p-bits that agree in the subset it is the same
+  own-error : (s p q : ℕ) → Same m s p q → apartIn m cs s (at q) ≡ errorIn s p
+  own-error s p q e =
+      omega (
+        arith,
+        same-apart s p q e,
+        same-apart s q p (record { low = sym (e .low); high = sym (e .high) }),
+        closest-apart m law part ends cs p s,
+        closest-apart m law part ends cs q s,
+      )
+
   -- the p-bits of both together are each subset's own
   pub own-bits : (ps : PBits) (s : ℕ) → s < 2 → Same m s (bitsIn m part ends ps cs s) (chosenBits m part ends ps cs)
   unfolding chosenBits
@@ -115,41 +127,23 @@ module _ (m : Mode) (law : Lawful m) (part : ℕ) (ends cs : List Rgb) where
   split f = pixels-split (apartAt m cs f) (subsetOf (f .partition)) (λ i h. subset-two (f .partition) i)
 
   -- no fields that the candidate allows lie closer
-  pub optimal : (ps : PBits) (f : Fields) → f .partition ≡ part → Plain m f →
-      SameSubset m f ends ps 0 → SameSubset m f ends ps 1 → apart m cs (chosenFields m part ends ps cs) ≤ apart m cs f
-  optimal ps f same plain first second =
-      let (q, c, e) = found f (plain .p) ps 0 (omega arith) first in
-      let (r, d, g) = found f (plain .p) ps 1 (omega arith) second in
-      omega (
-        arith,
-        split f,
-        split (chosenFields m part ends ps cs),
-        chosen-least ps 0 (omega arith) q c,
-        subset-least m law part ends cs f q 0 same (plain .indices) e,
-        chosen-least ps 1 (omega arith) r d,
-        subset-least m law part ends cs f r 1 same (plain .indices) g,
-      )
+  module _ (ps : PBits) (f : Fields) (same : f .partition ≡ part) (plain : Plain m f) where
+    -- in one subset
+    optimal-in : (s : ℕ) → s < 2 → SameSubset m f ends ps s → apartIn m cs s (chosenFields m part ends ps cs) ≤ apartIn m cs s f
+    optimal-in s h e =
+        let (q, c, alike) = found f (plain .p) ps s h e in
+        le-trans (chosen-least ps s h q c) (subset-least m law part ends cs f q s same (plain .indices) alike)
 
-  flip : {s p q : ℕ} → Same m s p q → Same m s q p
-  flip e = record { low = sym (e .low); high = sym (e .high) }
+    -- in both
+    pub optimal : SameSubset m f ends ps 0 → SameSubset m f ends ps 1 → apart m cs (chosenFields m part ends ps cs) ≤ apart m cs f
+    optimal first second =
+        omega (arith, split f, split (chosenFields m part ends ps cs), optimal-in 0 (omega arith) first, optimal-in 1 (omega arith) second)
 
   -- p-bits that are q's in subset 0 and r's in subset 1
   module _ (p q r : ℕ) (first : Same m 0 q p) (second : Same m 1 r p) where
     -- the error is what closest_rgb finds in the two subsets, each at its own
     pub by-subset : apart m cs (at p) ≡ errorIn 0 q + errorIn 1 r
-    by-subset =
-        omega (
-          arith,
-          split (at p),
-          same-apart 0 q p first,
-          same-apart 0 p q (flip first),
-          same-apart 1 r p second,
-          same-apart 1 p r (flip second),
-          closest-apart m law part ends cs p 0,
-          closest-apart m law part ends cs q 0,
-          closest-apart m law part ends cs p 1,
-          closest-apart m law part ends cs r 1,
-        )
+    by-subset = omega (arith, split (at p), own-error 0 q p first, own-error 1 r p second)
 
     -- the nearest index of pixel i in subset s
     abbrev near : ℕ → ℕ → ℕ → ℕ
@@ -185,3 +179,17 @@ module _ (m : Mode) (law : Lawful m) (part : ℕ) (ends cs : List Rgb) where
         sixteen = refl;
         indices = at-small (chosenBits m part ends ps cs);
       }
+
+  -- the greatest error, over pixels that are bytes
+  module _ (stored : Stored m ends) (bytes : (i : ℕ) → Below 256 (getD cs i black)) where
+    -- of fields at any p-bits
+    pub at-most : (p : ℕ) → apart m cs (at p) ≤ 3121200
+    unfolding fieldsAt
+    at-most p = apart-small m law cs (at p) stored (at-small p) bytes
+
+    -- so of one subset, whatever p-bits are tried
+    pub tried-most : (p s : ℕ) → s < 2 → errorIn s p ≤ 3121200
+    tried-most p =
+        two (λ (s : ℕ). errorIn s p ≤ 3121200)
+        (omega (arith, at-most p, split (at p), closest-apart m law part ends cs p 0))
+        (omega (arith, at-most p, split (at p), closest-apart m law part ends cs p 1))

@@ -1,6 +1,6 @@
 -- Laws of a block's distance: it is that of the colours, at most 3,121,200, kept by an exchange, and 0 exactly when every pixel equals
 -- the block's colour there.
-use Prim.Native.Nat.{ℕ, _≤_, _<_}
+use Prim.Native.Nat.{ℕ, suc, _≤_, _<_}
 use native.Mathlib.Omega.{arith}
 use mathlib.Core.Path.{_≡_, refl, sym, ap, _∙_}
 use mathlib.Core.Logic.{_⊎_}
@@ -8,9 +8,10 @@ use mathlib.Core.List.{List}
 use lib.ListN.{getD}
 use Rattle.bptc.specs.declared.Rgb.{Rgb}
 use Rattle.bptc.specs.Rows.{overPixels}
-use Rattle.bptc.specs.Mode.{Mode, modeNumbered}
+use Rattle.bptc.specs.Mode.{Mode, modeNumbered, largest}
 use Rattle.bptc.specs.Partition.{subsetOf}
 use Rattle.bptc.specs.Colour.{black, coloursOf, distSq, Below}
+use Rattle.bptc.specs.Shown.{Stored}
 use Rattle.bptc.proofs.Rows.{getD-each}
 use Rattle.bptc.proofs.Sums.{pixels-same, pixels-zero, pixels-none, pixels-most}
 use Rattle.bptc.proofs.PartitionRule.{subset-two}
@@ -37,13 +38,14 @@ distance-colours px block =
     pixels-same _ _ (λ i h. ap (distSq (getD (coloursOf px) i black)) (sym (getD-each black (colourAt m f) 16 i h)))
 
 -- the greatest distance, 16 × 195,075
-pub apart-small : (m : Mode) → Lawful m → (cs : List Rgb) (f : Fields) → Plain m f → ((i : ℕ) → Below 256 (getD cs i black)) → apart m cs f ≤ 3121200
+pub apart-small : (m : Mode) → Lawful m → (cs : List Rgb) (f : Fields) → Stored m (f .ends) → ((i : ℕ) → i < 16 → getD (f .indices) i 0 < suc (largest m)) →
+    ((i : ℕ) → Below 256 (getD cs i black)) → apart m cs f ≤ 3121200
 unfolding apart apartAt colourAt
-apart-small m law cs f plain bytes =
+apart-small m law cs f stored small bytes =
     pixels-most _ 195075
     (λ i h.
     dist-byte _ _ (bytes i)
-    (palette-byte m (law .shades) (f .ends) (f .p) (subsetOf (f .partition) i) (getD (f .indices) i 0) (subset-two (f .partition) i) (omega (arith, plain .indices i h)) (plain .channels)))
+    (palette-byte m (law .shades) (f .ends) (f .p) (subsetOf (f .partition) i) (getD (f .indices) i 0) (subset-two (f .partition) i) (omega (arith, small i h)) stored))
 
 -- the same colours lie equally far
 apart-same : (m : Mode) (cs : List Rgb) (f g : Fields) → ((i : ℕ) → i < 16 → colourAt m f i ≡ colourAt m g i) → apart m cs f ≡ apart m cs g

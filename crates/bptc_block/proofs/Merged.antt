@@ -1,5 +1,5 @@
 -- What finishing packs, put together from what closest_rgb finds in each subset, and that it is in range.
-use Prim.Native.Nat.{ℕ, _+_, _<_}
+use Prim.Native.Nat.{ℕ, _+_, _≤_, _<_}
 use native.Mathlib.Omega.{arith}
 use mathlib.Core.Path.{_≡_, refl, sym, _∙_}
 use mathlib.Core.Bool.{Bool, true, false}
@@ -12,13 +12,16 @@ use Rattle.bptc.specs.declared.Rgb.{Rgb}
 use Rattle.bptc.specs.declared.Closest.{Closest}
 use Rattle.bptc.specs.Tests.{pick}
 use Rattle.bptc.specs.Rows.{upFrom}
+use Rattle.bptc.specs.Bytes.{Bytes}
 use Rattle.bptc.specs.Mode.{Mode, modeNumbered}
 use Rattle.bptc.specs.Partition.{subsetOf}
 use Rattle.bptc.specs.Colour.{black, coloursOf}
+use Rattle.bptc.specs.Shown.{Stored}
 use Rattle.bptc.specs.Nearest.{nearest}
 use Rattle.bptc.specs.Closest.{inSubset, closestIn}
 use Rattle.bptc.proofs.Rows.{getD-each, each-same}
 use Rattle.bptc.proofs.PartitionRule.{subset-two}
+use Rattle.bptc.proofs.ColourBounds.{pixels-shown}
 use Rattle.bptc_block.specs.declared.PBits.{PBits}
 use Rattle.bptc_block.specs.declared.Candidate.{Candidate}
 use Rattle.bptc_block.specs.Fields.{Plain}
@@ -28,7 +31,7 @@ use Rattle.bptc_block.specs.Exchange.{compressed}
 use Rattle.bptc_block.specs.Finish.{bitsIn, joinedBits, chosenBits, fieldsAt, chosenFields, fieldsFor, finish}
 use Rattle.bptc_block.proofs.Modes.{Lawful, lawful}
 use Rattle.bptc_block.proofs.Refusals.{Good}
-use Rattle.bptc_block.proofs.Chosen.{own-bits, by-subset, each-nearest, chosen-plain}
+use Rattle.bptc_block.proofs.Chosen.{own-bits, by-subset, each-nearest, chosen-plain, at-most}
 
 -- of two figures, each 0 outside its subset, one is 0
 subset-or : (part i : ℕ) (f g : ℕ → ℕ) → bitOr (inSubset part 0 f i) (inSubset part 1 g i) ≡ pick (eqb (subsetOf part i) 0) (f i) (g i)
@@ -106,3 +109,8 @@ module _ (px : List ℕ) (c : Candidate) where
   fields-plain fit four =
       chosen-plain mode (lawful (c .mode)) (c .partition) (c .ends) (coloursOf px) (c .p) (fit .partition) four
       (λ k h. fit .stored k (omega arith)) (fit .p)
+
+  -- the greatest error
+  pub error-small : Stored mode (c .ends) → Bytes px → finish px c .error ≤ 3121200
+  unfolding finish fieldsFor chosenFields
+  error-small stored bytes = at-most mode (lawful (c .mode)) (c .partition) (c .ends) (coloursOf px) stored (pixels-shown px bytes) _

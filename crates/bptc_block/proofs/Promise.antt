@@ -6,7 +6,6 @@ use mathlib.Core.List.{List}
 use lib.ListN.{length}
 use Rattle.bptc.specs.Mode.{Mode, modeNumbered}
 use Rattle.bptc.specs.Colour.{coloursOf}
-use Rattle.bptc.proofs.ColourBounds.{pixels-shown}
 use Rattle.bptc_block.specs.declared.Candidate.{Candidate}
 use Rattle.bptc_block.specs.declared.Fields.{Fields}
 use Rattle.bptc_block.specs.Fields.{Plain}
@@ -23,8 +22,8 @@ use Rattle.bptc_block.proofs.Packed.{packed-length, packed-bytes, well-
 use Rattle.bptc_block.proofs.Modes.{Lawful, lawful}
 use Rattle.bptc_block.proofs.Exchanging.{compressed-partition}
 use Rattle.bptc_block.proofs.Chosen.{optimal}
-use Rattle.bptc_block.proofs.Distance.{apart-small, pack-distance}
-use Rattle.bptc_block.proofs.Merged.{fields-plain}
+use Rattle.bptc_block.proofs.Distance.{pack-distance}
+use Rattle.bptc_block.proofs.Merged.{fields-plain, error-small}
 use Rattle.bptc_block.proofs.Turned.{Turned, turned₀, turned₁, same-subset}
 use Rattle.bptc_block.proofs.Refusals.{Good}
 use Rattle.bptc_block.proofs.ReadCall.{readable, measure-answer}
@@ -74,7 +73,7 @@ module _ (px : List ℕ) (c : Candidate) (fit : Good c) (four : length (c .ends)
         exact = sym (pack-distance (c .mode) f (fit .mode) plain px);
         closest = closest;
         allowed = allowed;
-        bound = λ h. apart-small m (lawful (c .mode)) (coloursOf px) f plain (pixels-shown px h);
+        bound = error-small px c (λ k h. fit .stored k (omega arith));
       }
 
 -- the call

@@ -31,6 +31,7 @@ module _ (c : tie.After-lengths-refusal) where
   unfolding finishRefusal
   number = rw (c .before .candidate-refusal .ensures) at (c .lengths-refusal .ensures)
 
+  -- as the type of a candidate has it
   four : length (k .ends) ≡ 4
   four = sym (length-map (k .ends) _) ∙ c .before .before .before .before .good .1 .0 .1 .1 .1 .1 .0 .1 .0 .1
 

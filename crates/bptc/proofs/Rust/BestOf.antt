@@ -7,7 +7,7 @@ use mathlib.Core.Bool.{Bool, true, false}
 use mathlib.Core.List.{List, map}
 use lib.Dec.{leb, ltb}
 use lib.ListN.{getD}
-use borrow.Author.Tests.{leb-true, leb-false, lt-ltb, le-ltb}
+use borrow.Author.Tests.{leb-true, leb-false, lt-ltb}
 use Rattle.bptc.specs.declared.Rgb.{Rgb}
 use Rattle.bptc.specs.Tests.{pick}
 use Rattle.bptc.specs.Rows.{upFrom}
@@ -20,6 +20,8 @@ use Rattle.bptc.specs.Nearest.{nearestBy, nearest}
 use Rattle.bptc.specs.Rust.Words.{loop, enumerate}
 use Rattle.bptc.specs.Rust.Colour.{difference, dist-sq}
 use Rattle.bptc.specs.Rust.Palette.{palette-rgb, best-of}
+use Rattle.bptc.proofs.Tests.{pick-map}
+use Rattle.bptc.proofs.Least.{strict}
 use Rattle.bptc.proofs.Modes.{Shades}
 use Rattle.bptc.proofs.ColourBounds.{sq-up, sq-down, dist-byte}
 use Rattle.bptc.proofs.Shading.{palette-byte}
@@ -50,11 +52,7 @@ module _ (P : ℕ → Rgb) (p : Rgb) where
   body best e = pick (ltb (dist-sq p (e .1)) (best .1)) (e .0, dist-sq p (e .1)) best
 
   keep : (b n : ℕ) → body (b, d b) (n, P n) ≡ (pick (leb (d b) (d n)) b n, d (pick (leb (d b) (d n)) b n))
-  keep b n = rw dist-same (go (leb (d b) (d n)) refl)
-    where
-      go : (t : Bool) → leb (d b) (d n) ≡ t → _≡_ {A = ℕ × ℕ} (pick (ltb (d n) (d b)) (n, d n) (b, d b)) (pick t b n, d (pick t b n))
-      go true e = rw (le-ltb (d n) (d b) (leb-true (d b) (d n) e))
-      go false e = rw (lt-ltb (d n) (d b) (leb-false (d b) (d n) e))
+  keep b n = rw dist-same (strict (d b) (d n) (b, d b) (n, d n) ∙ sym (pick-map {B = ℕ × ℕ} (λ (i : ℕ). (i, d i)) (leb (d b) (d n)) b n))
 
   best-on : (k n b : ℕ) → loop (enumerate n (map P (upFrom n k))) (b, d b) body ≡ (firstLeast d b (upFrom n k), d (firstLeast d b (upFrom n k)))
   unfolding firstLeast

@@ -1,13 +1,13 @@
 -- pick_best_of_directly, whose test is strict, keeps the first state of least error.
 use Prim.Native.Nat.{ℕ}
 use mathlib.Core.Path.{_≡_, refl, sym, ap, _∙_, subst, subst₂}
-use mathlib.Core.Bool.{Bool, true, false}
 use mathlib.Core.List.{List, [], _∷_, map}
 use lib.Dec.{leb, ltb}
-use borrow.Author.Tests.{leb-true, leb-false, lt-ltb, le-ltb}
 use Rattle.bptc.specs.Tests.{pick}
 use Rattle.bptc.specs.Least.{firstLeast}
 use Rattle.bptc.specs.Rust.Words.{loop}
+use Rattle.bptc.proofs.Tests.{pick-map}
+use Rattle.bptc.proofs.Least.{strict}
 use Rattle.bptc_block.specs.Rust.PBitHandling.{pick-best-of-directly}
 
 -- the state that is kept, with its error and its indexes, is the first of least error
@@ -25,25 +25,22 @@ module _ {State : Type 0} (num : State → ℕ) (err idx : ℕ → ℕ) (f : Sta
   abbrev body : ℕ × ℕ × State → State → ℕ × ℕ × State
   body best p = pick (ltb (f p .0) (best .0)) (f p .0, f p .1, p) best
 
-  step : (b p : State) → body (kept b) p ≡ pick (ltb (err (num p)) (err (num b))) (kept p) (kept b)
-  step b p = ap {B = ℕ × ℕ × State} (λ (t : ℕ × ℕ). pick (ltb (t .0) (err (num b))) (t .0, t .1, p) (kept b)) (gives p)
+  -- the one of two that is kept
+  abbrev kept-of : State → State → State
+  kept-of b p = pick (leb (err (num b)) (err (num p))) b p
+
+  step : (b p : State) → body (kept b) p ≡ kept (kept-of b p)
+  step b p =
+      ap {B = ℕ × ℕ × State} (λ (t : ℕ × ℕ). pick (ltb (t .0) (err (num b))) (t .0, t .1, p) (kept b)) (gives p)
+      ∙ strict (err (num b)) (err (num p)) (kept b) (kept p)
+      ∙ sym (pick-map kept (leb (err (num b)) (err (num p))) b p)
 
   best-on : (others : List State) (b : State) → Best num err idx (loop others (kept b) body) (firstLeast err (num b) (map num others))
   unfolding firstLeast
   best-on [] b = record { state = b; result = refl; least = refl }
-  best-on (p ∷ ps) b = go (leb (err (num b)) (err (num p))) refl (best-on ps)
-    where
-      go : (t : Bool) → leb (err (num b)) (err (num p)) ≡ t →
-          ((c : State) → Best num err idx (loop ps (kept c) body) (firstLeast err (num c) (map num ps))) →
-          Best num err idx (loop ps (body (kept b) p) body) (firstLeast err (pick (leb (err (num b)) (err (num p))) (num b) (num p)) (map num ps))
-      go true e rest =
-          subst₂ (λ (s : ℕ × ℕ × State) (q : ℕ). Best num err idx (loop ps s body) (firstLeast err q (map num ps)))
-          (sym (step b p ∙ ap (λ (t : Bool). pick t (kept p) (kept b)) (le-ltb (err (num p)) (err (num b)) (leb-true _ _ e))))
-          (ap (λ (t : Bool). pick t (num b) (num p)) (sym e)) (rest b)
-      go false e rest =
-          subst₂ (λ (s : ℕ × ℕ × State) (q : ℕ). Best num err idx (loop ps s body) (firstLeast err q (map num ps)))
-          (sym (step b p ∙ ap (λ (t : Bool). pick t (kept p) (kept b)) (lt-ltb (err (num p)) (err (num b)) (leb-false _ _ e))))
-          (ap (λ (t : Bool). pick t (num b) (num p)) (sym e)) (rest p)
+  best-on (p ∷ ps) b =
+      subst₂ (λ (s : ℕ × ℕ × State) (q : ℕ). Best num err idx (loop ps s body) (firstLeast err q (map num ps)))
+      (sym (step b p)) (pick-map num (leb (err (num b)) (err (num p))) b p) (best-on ps (kept-of b p))
 
   -- pick_best_of_directly
   pub best-directly : (first : State) (others : List State) → Best num err idx (pick-best-of-directly first others f) (firstLeast err (num first) (map num others))

@@ -1,18 +1,12 @@
 -- `finishing::fields_for` meets its contract.
-use Prim.Native.Nat.{ℕ, _+_, _^_, _≤_, _<_}
+use Prim.Native.Nat.{ℕ, _+_, _^_, _<_}
 use native.Mathlib.Omega.{arith}
 use mathlib.Core.Path.{_≡_, ap, _∙_}
 use mathlib.Core.List.{List}
 use borrow.Author.Needs.{needs}
-use Rattle.bptc.specs.Mode.{Mode, modeNumbered}
-use Rattle.bptc.specs.Colour.{coloursOf}
-use Rattle.bptc.specs.Closest.{closestIn}
-use Rattle.bptc.proofs.ColourBounds.{pixels-shown}
-use Rattle.bptc.proofs.ClosestSubset.{closest-small}
 use Rattle.bptc_block.specs.declared.Candidate.{Candidate}
-use Rattle.bptc_block.specs.Finish.{bitsIn, finish}
-use Rattle.bptc_block.proofs.Modes.{lawful}
-use Rattle.bptc_block.proofs.Merged.{fields-found, error-found}
+use Rattle.bptc_block.specs.Finish.{finish}
+use Rattle.bptc_block.proofs.Merged.{fields-found, error-found, error-small}
 use Rattle.finishing.specs.declared.trial.Subsets.{Subsets}
 use Rattle.finishing.proofs.fields_for.Statement.{statement}
 use Rattle.finishing.proofs.fields_for.Tie as tie
@@ -27,22 +21,13 @@ module _ (c : tie.After-subsets) where
   abbrev k : Candidate
   k = c .before .before .before .args .candidate
 
-  -- its mode
-  abbrev m : Mode
-  m = modeNumbered (k .mode)
-
   errors : c .subsets .result .first .closest .error + c .subsets .result .second .closest .error ≡ finish px k .error
   errors =
       ap (λ (r : Subsets). r .first .closest .error + r .second .closest .error) (c .subsets .ensures)
       ∙ error-found px k
 
-  small : (s p : ℕ) → closestIn m (k .partition) (k .ends) p s (coloursOf px) .error ≤ 3121200
-  small s p =
-      closest-small m (lawful (k .mode) .shades) (k .partition) (k .ends) (coloursOf px) (c .before .before .before .pre .1 .1)
-      (pixels-shown px (λ i h. c .before .before .shared-slice-known .given i .fits)) p s
-
   errors-small : c .subsets .result .first .closest .error + c .subsets .result .second .closest .error < 2 ^ 32
-  errors-small = rw (c .subsets .ensures) (omega (arith, small 0 (bitsIn m (k .partition) (k .ends) (k .p) (coloursOf px) 0), small 1 (bitsIn m (k .partition) (k .ends) (k .p) (coloursOf px) 1)))
+  errors-small = omega (arith, errors, error-small px k (c .before .before .before .pre .1 .1) (λ i h. c .before .before .shared-slice-known .given i .fits))
 
 subsets-requires : tie.Need-subsets-requires
 subsets-requires c κs = search needs
