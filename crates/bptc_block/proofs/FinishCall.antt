@@ -1,6 +1,6 @@
 -- Laws of the call `finish`: when it declines, what it leaves, and what it gives.
 use Prim.Native.Nat.{ℕ}
-use mathlib.Core.Path.{_≡_, sym, _∙_}
+use mathlib.Core.Path.{_≡_, refl, sym, _∙_, subst}
 use mathlib.Core.Bool.{true}
 use mathlib.Core.List.{List}
 use lib.Dec.{eqb}
@@ -11,8 +11,10 @@ use Rattle.bptc_block.specs.declared.Candidate.{Candidate}
 use Rattle.bptc_block.specs.declared.Finished.{Finished}
 use Rattle.bptc_block.specs.Finish.{finish}
 use Rattle.bptc_block.specs.Refusal.{checkBlock, checkCandidate}
+use Rattle.bptc_block.specs.Checks.{Accepted, PixelsChecked, BlockChecked, CandidateChecked}
 use Rattle.bptc_block.specs.FinishCall.{finishRefusal, finishOf, finishInto}
 use Rattle.bptc_block.proofs.Refusals.{Good, number-said, passed, good}
+use Rattle.bptc_block.proofs.Checks.{pixels-checked, block-checked, candidate-checked}
 
 module _ (px : List ℕ) (c : Candidate) (block : List ℕ) where
   -- the number in the answer
@@ -20,6 +22,13 @@ module _ (px : List ℕ) (c : Candidate) (block : List ℕ) where
   unfolding finishOf
   finish-number =
       pick-map (λ (a : Finished). a .refusal) (eqb (finishRefusal px c block) 0) _ _ ∙ number-said (finishRefusal px c block)
+
+  -- by checks 1 to 6
+  pub finish-checked : PixelsChecked px (BlockChecked block (CandidateChecked c Accepted)) (finishOf px c block .refusal)
+  unfolding finishRefusal
+  finish-checked =
+      subst (PixelsChecked px (BlockChecked block (CandidateChecked c Accepted))) (sym finish-number)
+      (pixels-checked _ _ px (block-checked _ _ block (candidate-checked Accepted 0 c (λ known. refl))))
 
   -- over parts of the right lengths the candidate alone decides
   pub finish-declines : length px ≡ 48 → length block ≡ 16 → finishOf px c block .refusal ≡ checkCandidate c 0

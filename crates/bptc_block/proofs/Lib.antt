@@ -10,6 +10,7 @@ pub mod Modes
 pub mod Flipping
 pub mod Exchanging
 pub mod Refusals
+pub mod Checks
 pub mod Readable
 pub mod PackCall
 pub mod ReadCall

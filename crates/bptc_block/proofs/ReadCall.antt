@@ -1,7 +1,7 @@
 -- Laws of the calls `read` and `measure`: what they accept, what they decline, and what they leave.
 use Prim.Native.Nat.{ℕ, zero, suc, _<_}
 use native.Mathlib.Omega.{arith}
-use mathlib.Core.Path.{_≡_, sym, _∙_}
+use mathlib.Core.Path.{_≡_, refl, sym, _∙_}
 use mathlib.Core.Logic.{_⊎_, inl, inr}
 use mathlib.Core.List.{List}
 use lib.Dec.{eqb, ltb}
@@ -13,12 +13,15 @@ use Rattle.bptc.specs.Colour.{bytesOf}
 use Rattle.bptc.proofs.Tests.{pick-map}
 use Rattle.bptc.proofs.Digits.{zeros-zero}
 use Rattle.bptc_block.specs.declared.Reading.{Reading}
+use Rattle.bptc_block.specs.declared.Measured.{Measured}
 use Rattle.bptc_block.specs.Packed.{modeOf, fieldsOf}
 use Rattle.bptc_block.specs.Chapter.{colours, distance}
 use Rattle.bptc_block.specs.Refusal.{isMode, checkBlock, checkReadable}
+use Rattle.bptc_block.specs.Checks.{Accepted, PixelsChecked, BlockChecked, ReadableChecked}
 use Rattle.bptc_block.specs.ReadCall.{readRefusal, readingOf, unread, readOf, readInto}
 use Rattle.bptc_block.specs.MeasureCall.{measureOf}
 use Rattle.bptc_block.proofs.Refusals.{number-said, passed, one-or-three, is-mode}
+use Rattle.bptc_block.proofs.Checks.{pixels-checked, block-checked, readable-checked}
 
 -- a block that says mode 1 or 3 does not begin with a zero byte
 some-byte : (block : List ℕ) → (modeOf block ≡ 1) ⊎ (modeOf block ≡ 3) → 0 < getD block 0 0
@@ -35,6 +38,16 @@ module _ (block px : List ℕ) where
   pub read-number : readOf block px .refusal ≡ readRefusal block px
   unfolding readOf
   read-number = pick-map (λ (a : Reading). a .refusal) (eqb (readRefusal block px) 0) _ _ ∙ number-said (readRefusal block px)
+
+  -- by checks 1, 2, 8 and 9
+  pub read-checked : PixelsChecked px (BlockChecked block (ReadableChecked block Accepted)) (readRefusal block px)
+  unfolding readRefusal
+  read-checked = pixels-checked _ _ px (block-checked _ _ block (readable-checked Accepted 0 block refl))
+
+  -- measuring answers the same number
+  pub measure-number : measureOf block px .refusal ≡ readRefusal block px
+  unfolding measureOf
+  measure-number = pick-map (λ (a : Measured). a .refusal) (eqb (readRefusal block px) 0) _ _ ∙ number-said (readRefusal block px)
 
   -- a declined call answers the number and leaves all else zero
   pub read-declined : (readRefusal block px ≡ 0 → ⊥) → readOf block px ≡ unread (readRefusal block px)

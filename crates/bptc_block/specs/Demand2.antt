@@ -8,17 +8,11 @@ use lib.ListN.{getD, length}
 use Rattle.bptc.specs.Tests.{pick}
 use Rattle.bptc.specs.Bytes.{Bytes}
 use Rattle.bptc.specs.Colour.{black, Below, coloursOf}
-use Rattle.bptc_block.specs.declared.PBits.{PBits}
-use Rattle.bptc_block.specs.declared.PBits.the-variants.{Free, Fixed}
 use Rattle.bptc_block.specs.declared.Candidate.{Candidate}
+use Rattle.bptc_block.specs.Checks.{BitsWithin}
 use Rattle.bptc_block.specs.FinishCall.{finishOf, finishInto}
 use Rattle.bptc_block.specs.Rust.Compressed.{Compressed}
 use Rattle.bptc_block.specs.Rust.Encode.{compress-mode1, compress-mode3}
-
--- p-bits that are free, or fixed below a limit
-abbrev pub BitsWithin : ℕ → PBits → Type 0
-BitsWithin bits Free = Unit {0}
-BitsWithin bits (Fixed p) = p < bits
 
 -- a candidate in range: one of 64 partitions, four endpoints whose channels are below a limit, and such p-bits
 pub record CandidateWithin (channel bits : ℕ) (c : Candidate) : Type 0 where

@@ -5,6 +5,7 @@ pub mod Packed
 pub mod Chapter
 pub mod Exchange
 pub mod Refusal
+pub mod Checks
 pub mod PackCall
 pub mod ReadCall
 pub mod MeasureCall

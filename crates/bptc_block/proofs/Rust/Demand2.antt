@@ -5,31 +5,25 @@ use mathlib.Core.Path.{_≡_, sym, ap, _∙_, subst}
 use mathlib.Core.Bool.{Bool, true, false}
 use mathlib.Core.Logic.{_⊎_, inl, inr}
 use mathlib.Core.List.{List}
-use lib.Dec.{T, eqb, le→leb}
+use lib.Dec.{T, eqb}
 use lib.ListN.{length}
-use lib.Pow.{le-ones}
 use Rattle.bptc.specs.Tests.{pick}
 use Rattle.bptc.specs.Bytes.{Bytes}
 use Rattle.bptc.specs.Mode.{mode1, mode3, modeNumbered}
 use Rattle.bptc.specs.Colour.{coloursOf}
 use Rattle.bptc.specs.Shown.{Stored}
 use Rattle.bptc.proofs.ColourBounds.{pixels-shown, colours-length}
-use Rattle.bptc_block.specs.declared.PBits.{PBits}
-use Rattle.bptc_block.specs.declared.PBits.the-variants.{Free, Fixed}
 use Rattle.bptc_block.specs.declared.Candidate.{Candidate}
 use Rattle.bptc_block.specs.Finish.{fieldsFor, finish}
 use Rattle.bptc_block.specs.Refusal.{pInRange}
 use Rattle.bptc_block.specs.FinishCall.{finishOf}
 use Rattle.bptc_block.specs.Rust.Compressed.{Compressed}
 use Rattle.bptc_block.specs.Rust.Encode.{compress-mode1, compress-mode3}
-use Rattle.bptc_block.specs.Demand2.{BitsWithin, CandidateWithin, CandidateInRange, rustOf, Demand2}
+use Rattle.bptc_block.specs.Demand2.{CandidateWithin, CandidateInRange, rustOf, Demand2}
 use Rattle.bptc_block.proofs.Refusals.{Good, checked}
+use Rattle.bptc_block.proofs.Checks.{in-bits}
 use Rattle.bptc_block.proofs.FinishCall.{finish-declines, finish-answer, finish-block}
 use Rattle.bptc_block.proofs.Rust.Agree.{finished, rust1, rust3}
-
-bits-within : (w : ℕ) (ps : PBits) → BitsWithin (2 ^ w) ps → T (pInRange (2 ^ w - 1) ps)
-bits-within w Free h = tt
-bits-within w (Fixed p) h = le→leb _ _ (le-ones w h)
 
 -- a candidate in the range of the mode of a number
 abbrev WithinMode : ℕ → Candidate → Type 0
@@ -41,7 +35,7 @@ within-good c known within =
       mode = known;
       partition = within .partition;
       stored = λ k h. within .channels k (omega (arith, within .four));
-      p = bits-within (modeNumbered (c .mode) .pBits) (c .p) (within .p);
+      p = subst T (sym (in-bits (modeNumbered (c .mode) .pBits) (c .p) (within .p))) tt;
     }
 
 -- no check declines a candidate in range, and it has four endpoints

@@ -1,0 +1,58 @@
+-- The list of refusals in plain numbers.
+use Prim.Native.Nat.{ℕ, _≤_, _<_}
+use mathlib.Core.Path.{_≡_}
+use mathlib.Core.Logic.{_⊎_}
+use mathlib.Core.List.{List}
+use lib.ListN.{getD, length}
+use Rattle.bptc.specs.Colour.{black, Below}
+use Rattle.bptc_block.specs.declared.PBits.{PBits}
+use Rattle.bptc_block.specs.declared.PBits.the-variants.{Free, Fixed}
+use Rattle.bptc_block.specs.declared.Candidate.{Candidate}
+use Rattle.bptc_block.specs.Packed.{modeOf}
+
+-- no check is left: nothing is declined
+abbrev pub Accepted : ℕ → Type 0
+Accepted n = n ≡ 0
+
+-- what a check says of the number that is answered: it passes, and the later ones decide, or it does not, and its number is given
+pub data Check (number : ℕ) (Passes : Type 0) (Later : ℕ → Type 0) (n : ℕ) : Type 0 where
+  passes : Passes → Later n → Check number Passes Later n
+  declines : (Passes → ⊥) → n ≡ number → Check number Passes Later n
+
+-- a mode's number is 1 or 3
+abbrev pub Known : ℕ → Type 0
+Known mode = (mode ≡ 1) ⊎ (mode ≡ 3)
+
+-- a statement about a limit, which is one number in mode 1 and another in mode 3
+abbrev pub InMode : ℕ → (ℕ → Type 0) → ℕ → ℕ → Type 0
+InMode mode P first third = (mode ≡ 1 → P first) × (mode ≡ 3 → P third)
+
+-- p-bits that are free, or fixed below a limit
+abbrev pub BitsWithin : ℕ → PBits → Type 0
+BitsWithin bits Free = Unit {0}
+BitsWithin bits (Fixed p) = p < bits
+
+-- 1: the pixel part is 48 bytes long
+abbrev pub PixelsChecked : List ℕ → (ℕ → Type 0) → ℕ → Type 0
+PixelsChecked px Later = Check 1 (length px ≡ 48) Later
+
+-- 2: the block part is 16 bytes long
+abbrev pub BlockChecked : List ℕ → (ℕ → Type 0) → ℕ → Type 0
+BlockChecked block Later = Check 2 (length block ≡ 16) Later
+
+-- 3 to 6: the mode is 1 or 3, the partition is at most 63, every channel is at most 63 in mode 1 and 127 in mode 3,
+-- fixed p-bits are at most 3 in mode 1 and 15 in mode 3
+abbrev pub CandidateChecked : Candidate → (ℕ → Type 0) → ℕ → Type 0
+CandidateChecked c Later =
+    Check 3 (Known (c .mode))
+    (Check 4 (c .partition ≤ 63)
+    (Check 5 (InMode (c .mode) (λ (top : ℕ). (k : ℕ) → k < length (c .ends) → Below top (getD (c .ends) k black)) 64 128)
+    (Check 6 (InMode (c .mode) (λ (top : ℕ). BitsWithin top (c .p)) 4 16) Later)))
+
+-- 7: every index is at most 7 in mode 1 and 3 in mode 3
+abbrev pub IndicesChecked : ℕ → List ℕ → (ℕ → Type 0) → ℕ → Type 0
+IndicesChecked mode is Later = Check 7 (InMode mode (λ (top : ℕ). (i : ℕ) → i < length is → getD is i 0 < top) 8 4) Later
+
+-- 8 and 9: byte 0 of the block to be read is not zero, and the block has mode 1 or 3
+abbrev pub ReadableChecked : List ℕ → (ℕ → Type 0) → ℕ → Type 0
+ReadableChecked block Later = Check 8 (0 < getD block 0 0) (Check 9 (Known (modeOf block)) Later)

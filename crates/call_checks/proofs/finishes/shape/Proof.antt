@@ -1,0 +1,57 @@
+-- `call_checks::finishes::shape` meets its contract.
+use Prim.Native.Nat.{_-_, _≤_}
+use native.Mathlib.Omega.{arith}
+use mathlib.Core.Path.{_≡_}
+use lib.ListN.{length, length-set}
+use borrow.Author.Needs.{needs}
+use Rattle.call_checks.proofs.finishes.shape.Statement.{statement}
+use Rattle.call_checks.proofs.finishes.shape.Tie as tie
+
+abbrev Inv-loop : tie.InvT-loop
+Inv-loop kind part₀ i₀ part i = (i ≤ length part) × (length part ≡ length part₀)
+
+abbrev μ-loop : tie.MeasureT-loop
+μ-loop kind part₀ i₀ part i = length part₀ - i
+
+loop-holds : tie.Need-loop-holds Inv-loop μ-loop
+loop-holds c = search needs
+
+slice-read-of-kind : tie.Need-slice-read-of-kind Inv-loop μ-loop
+slice-read-of-kind c = search needs
+
+of-kind-requires : tie.Need-of-kind-requires Inv-loop μ-loop
+of-kind-requires c κs = search needs
+
+slice-write-part : tie.Need-slice-write-part Inv-loop μ-loop
+slice-write-part c = search needs
+
+add-i : tie.Need-add-i Inv-loop μ-loop
+add-i c = search needs
+
+loop-less : tie.Need-loop-less Inv-loop μ-loop
+loop-less c = search needs
+
+loop-again : tie.Need-loop-again Inv-loop μ-loop
+loop-again c = simp length-set (omega arith)
+
+same-length : tie.Need-same-length Inv-loop μ-loop
+same-length c = search needs
+
+returns : tie.Need-returns Inv-loop μ-loop
+returns c = search needs
+
+pub shape-spec : {M : Type 1} → statement M
+shape-spec =
+    tie.close
+    (tie.spec
+    Inv-loop
+    μ-loop
+    loop-holds
+    slice-read-of-kind
+    of-kind-requires
+    slice-write-part
+    add-i
+    loop-less
+    loop-again
+    same-length
+    returns)

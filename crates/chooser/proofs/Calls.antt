@@ -1,0 +1,130 @@
+-- Laws of the calls `start`, `offer` and `take`: what they give, what they decline, and what is held.
+use Prim.Native.Nat.{ℕ}
+use mathlib.Core.Path.{_≡_, refl, sym, _∙_}
+use mathlib.Core.Bool.{false}
+use mathlib.Core.List.{List}
+use lib.Dec.{eqb}
+use lib.ListN.{length, replicate}
+use borrow.Author.Tests.{eqb-true, eq-eqb, ne-eqb}
+use Rattle.bptc.specs.Bytes.{Bytes}
+use Rattle.bptc.proofs.Tests.{pick-elim, pick-map}
+use Rattle.bptc.proofs.Bytes.{zero-bytes}
+use Rattle.bptc_block.specs.declared.Candidate.{Candidate}
+use Rattle.bptc_block.specs.declared.Finished.{Finished}
+use Rattle.bptc_block.specs.FinishCall.{finishOf, finishInto}
+use Rattle.bptc_block.specs.Promise.{FinishPromise}
+use Rattle.bptc_block.proofs.Refusals.{number-said}
+use Rattle.bptc_block.proofs.FinishCall.{finish-declines}
+use Rattle.bptc_block.proofs.Promise.{finish-keeps}
+use Rattle.chooser.specs.declared.Chooser.{Chooser}
+use Rattle.chooser.specs.declared.Offered.{Offered}
+use Rattle.chooser.specs.declared.Taken.{Taken}
+use Rattle.chooser.specs.Rule.{better}
+use Rattle.chooser.specs.StartCall.{startRefusal, emptyOver, blackPixels, startedOver, startOf}
+use Rattle.chooser.specs.OfferCall.{offerRefusal, finishGives, kept, keeping, accepting, offerOf}
+use Rattle.chooser.specs.TakeCall.{takeRefusal, takeOf, takeInto}
+use Rattle.chooser.specs.Calls.{held}
+
+module _ (px : List ℕ) where
+  -- the answer of a start
+  pub start-answer : startOf px ≡ record { refusal = startRefusal px; chooser = emptyOver (startedOver px) }
+  unfolding startOf
+  start-answer = refl
+
+  -- over 48 bytes
+  pub started-own : length px ≡ 48 → startedOver px ≡ px
+  unfolding startedOver
+  started-own e = rw (eq-eqb (length px) 48 e)
+
+  -- over any other number
+  pub started-black : (length px ≡ 48 → ⊥) → startedOver px ≡ blackPixels
+  unfolding startedOver
+  started-black ne = rw (ne-eqb (length px) 48 ne)
+
+  -- these pixels are bytes
+  pub started-bytes : Bytes px → Bytes (startedOver px)
+  unfolding startedOver
+  started-bytes h = pick-elim Bytes (eqb (length px) 48) (λ t. h) (λ t. zero-bytes 48)
+
+  -- and there are 48 of them
+  pub started-length : length (startedOver px) ≡ 48
+  unfolding startedOver
+  started-length = pick-elim (λ (bs : List ℕ). length bs ≡ 48) (eqb (length px) 48) (λ t. eqb-true (length px) 48 t) (λ t. refl)
+
+module _ (ch : Chooser) (c : Candidate) where
+  -- an offer by cases: accepted or declined
+  pub offer-cases : (P : Offered → Type 0) →
+      (offerRefusal c ≡ 0 → P (record { refusal = 0; chooser = accepting ch c })) →
+      (eqb (offerRefusal c) 0 ≡ false → P (record { refusal = offerRefusal c; chooser = ch })) → P (offerOf ch c)
+  unfolding offerOf
+  offer-cases P taken left = pick-elim P (eqb (offerRefusal c) 0) (λ t. taken (eqb-true _ _ t)) left
+
+  -- its number
+  pub offer-number : offerOf ch c .refusal ≡ offerRefusal c
+  offer-number = offer-cases (λ (o : Offered). o .refusal ≡ offerRefusal c) (λ e. sym e) (λ t. refl)
+
+  -- a declined one
+  pub offer-declined : (offerRefusal c ≡ 0 → ⊥) → offerOf ch c ≡ record { refusal = offerRefusal c; chooser = ch }
+  unfolding offerOf
+  offer-declined ne = rw (ne-eqb (offerRefusal c) 0 ne)
+
+  -- by what the call `finish` answered over the chooser's pixels
+  module _ (f : Finished) (p : length (ch .pixels) ≡ 48) (e : f ≡ finishOf (ch .pixels) c (replicate 16 0)) where
+    finish-said : f .refusal ≡ offerRefusal c
+    finish-said = rw e (finish-declines (ch .pixels) c (replicate 16 0) p refl)
+
+    -- its block and error, or what was kept
+    pub offer-better : (block : List ℕ) → block ≡ finishInto (ch .pixels) c (replicate 16 0) → f .refusal ≡ 0 →
+        record { refusal = f .refusal; chooser = keeping ch (better (kept ch) (record { block = block; error = f .error })) } ≡ offerOf ch c
+    unfolding offerOf finishGives
+    offer-better block b ok = rw (sym finish-said ∙ ok, ok, b, e)
+
+    -- a refusal leaves the chooser as it was
+    pub offer-left : (f .refusal ≡ 0 → ⊥) → record { refusal = f .refusal; chooser = ch } ≡ offerOf ch c
+    offer-left ne = rw (offer-declined (λ z. ne (finish-said ∙ z)), finish-said)
+
+-- what finishing promises of an accepted candidate
+pub gives-keeps : (px : List ℕ) (c : Candidate) → length px ≡ 48 → length (c .ends) ≡ 4 → offerRefusal c ≡ 0 →
+    FinishPromise px c (finishGives px c .block) (finishGives px c .error)
+unfolding finishGives
+gives-keeps px c p four ok = finish-keeps px c (replicate 16 0) four (finish-declines px c (replicate 16 0) p refl ∙ ok)
+
+module _ (ch : Chooser) (part : List ℕ) where
+  -- a take alters no chooser, declined or not
+  pub take-keeps : takeOf ch part .chooser ≡ ch
+  unfolding takeOf
+  take-keeps = refl
+
+  -- its number
+  pub take-number : takeOf ch part .answer .refusal ≡ takeRefusal part
+  unfolding takeOf
+  take-number = pick-map (λ (a : Taken). a .refusal) (eqb (takeRefusal part) 0) _ _ ∙ number-said (takeRefusal part)
+
+  -- lent 16 bytes
+  module _ (sixteen : length part ≡ 16) where
+    -- it answers the error
+    pub take-answer : takeOf ch part ≡ record { answer = record { refusal = 0; error = ch .error }; chooser = ch }
+    unfolding takeOf
+    take-answer = rw (eq-eqb (length part) 16 sixteen)
+
+    -- and gives the block
+    pub take-block : takeInto ch part ≡ ch .block
+    unfolding takeInto
+    take-block = rw (eq-eqb (length part) 16 sixteen)
+
+    -- so what is held is what the chooser keeps
+    pub held-kept : held ch part ≡ kept ch
+    unfolding held
+    held-kept = rw (take-block, take-answer)
+
+  -- lent any other number
+  module _ (other : length part ≡ 16 → ⊥) where
+    -- it declines
+    pub take-declined : takeOf ch part ≡ record { answer = record { refusal = 2; error = 0 }; chooser = ch }
+    unfolding takeOf
+    take-declined = rw (ne-eqb (length part) 16 other)
+
+    -- and leaves the part as it was
+    pub take-leaves : takeInto ch part ≡ part
+    unfolding takeInto
+    take-leaves = rw (ne-eqb (length part) 16 other)

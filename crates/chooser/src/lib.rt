@@ -1,0 +1,135 @@
+// Choosing among candidates: the best block so far over pixels, kept from offer to offer.
+ghost use mathlib.Core.Path.{_≡_};
+ghost use lib.ListN.{length};
+ghost use Rattle.chooser.specs.Rule.{better};
+ghost use Rattle.chooser.specs.StartCall.{emptyOver, startOf};
+ghost use Rattle.chooser.specs.OfferCall.{kept, keeping, offerOf};
+ghost use Rattle.chooser.specs.TakeCall.{takeOf, takeInto};
+pub use block::Candidate;
+pub use block::PBits;
+pub use block::Rgb;
+use block::finish;
+
+// The pixels that candidates are finished over, and the best block so far with its error.
+pub struct Chooser {
+    pub pixels: [u8; 48],
+    pub block: [u8; 16],
+    pub error: u32,
+}
+
+// The answer of `start`.
+pub struct Started {
+    pub refusal: u8,
+    pub chooser: Chooser,
+}
+
+// The answer of `offer`, and the chooser handed back.
+pub struct Offered {
+    pub refusal: u8,
+    pub chooser: Chooser,
+}
+
+// The answer of `take`; the block stands in the lent part.
+pub struct Taken {
+    pub refusal: u8,
+    pub error: u32,
+}
+
+// The answer of `take` beside the chooser, which it does not alter.
+pub struct Took {
+    pub answer: Taken,
+    pub chooser: Chooser,
+}
+
+// Copies bytes into a part of the same length.
+fn copy(bytes: &[u8], part: &mut [u8])
+    requires { ⌜ length (now part) ≡ length (now bytes) ⌝ }
+    ensures { λ _. ⌜ now (part .exit) ≡ now (bytes .entry) ⌝ }
+{
+    let mut i: usize = 0;
+    while i < bytes.len() {
+        part[i] = bytes[i];
+        i += 1;
+    }
+}
+
+// A chooser that has accepted nothing: Compressed::invalid.
+fn empty(pixels: [u8; 48]) -> Chooser
+    ensures { λ r. ⌜ r ≡ emptyOver pixels ⌝ }
+{
+    Chooser {
+        pixels,
+        block: [0; 16],
+        error: 4294967295,
+    }
+}
+
+impl Chooser {
+    // A chooser over the pixels as they stand now, or over black ones where they are not 48 bytes.
+    pub fn start(pixels: &[u8]) -> Started
+        ensures { λ r. ⌜ r ≡ startOf (now (pixels .entry)) ⌝ }
+    {
+        let mut own = [0u8; 48];
+        if pixels.len() != 48 {
+            return Started {
+                refusal: 1,
+                chooser: empty(own),
+            };
+        }
+        copy(pixels, &mut own);
+        Started {
+            refusal: 0,
+            chooser: empty(own),
+        }
+    }
+
+    // Compressed::better: the chooser with a block and its error where this error is smaller than the one held.
+    fn better(mut self, block: [u8; 16], error: u32) -> Chooser
+        ensures { λ r. ⌜ r ≡ keeping self (better (kept self) (record { block = block; error = error })) ⌝ }
+    {
+        if error < self.error {
+            self.block = block;
+            self.error = error;
+        }
+        self
+    }
+
+    // Finishes the chooser's pixels with a candidate, and keeps the better block.
+    pub fn offer(mut self, candidate: Candidate) -> Offered
+        ensures { λ r. ⌜ r ≡ offerOf self candidate ⌝ }
+    {
+        let pixels = self.pixels;
+        let mut block = [0u8; 16];
+        let finished = finish(&pixels, candidate, &mut block);
+        if finished.refusal == 0 {
+            self = self.better(block, finished.error);
+        }
+        Offered {
+            refusal: finished.refusal,
+            chooser: self,
+        }
+    }
+
+    // The best block so far into the lent part, and its error.
+    pub fn take(self, block: &mut [u8]) -> Took
+        ensures answer { λ r. ⌜ r ≡ takeOf self (now (block .entry)) ⌝ }
+        ensures part { λ _. ⌜ now (block .exit) ≡ takeInto self (now (block .entry)) ⌝ }
+    {
+        let mut answer = Taken {
+            refusal: 2,
+            error: 0,
+        };
+        if block.len() == 16 {
+            let held = self.block;
+            copy(&held, block);
+            answer = Taken {
+                refusal: 0,
+                error: self.error,
+            };
+        }
+        Took {
+            answer,
+            chooser: self,
+        }
+    }
+}
