@@ -1,10 +1,9 @@
 // The fields of a block, read by bit place.
 ghost use mathlib.Core.Path.{_≡_};
-ghost use mathlib.Core.Logic.{_⊎_};
 ghost use Prim.Native.Nat.{_+_, _*_, _/_, _%_, _<_, _≤_};
 ghost use lib.ListN.{getD, take, drop};
 ghost use Rattle.bptc.specs.Rows.{sum};
-ghost use Rattle.bptc.specs.Mode.{modeNumbered};
+ghost use Rattle.bptc.specs.Mode.{Known, modeNumbered};
 ghost use Rattle.bptc_block.specs.Bits.{fieldAt, split};
 ghost use Rattle.bptc_block.specs.Bytes.{number};
 ghost use Rattle.bptc_block.specs.Fields.{indexWidthBy, widths, endFrom};
@@ -112,7 +111,7 @@ fn indices(mode: u8, block: &[u8], at: u32, partition: u8) -> [u8; 16]
 
 // The fields of a block. Requires mode 1 or 3.
 pub fn fields(mode: u8, block: &[u8]) -> Fields
-    requires { ⌜ (mode ≡ 1) ⊎ (mode ≡ 3) ⌝ }
+    requires { ⌜ Known mode ⌝ }
     ensures { λ r. ⌜ r ≡ fieldsOf (modeNumbered mode) (now (block .entry)) ⌝ }
 {
     let bits = channel_bits(mode);

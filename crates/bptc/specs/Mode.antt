@@ -1,5 +1,7 @@
 -- What tells one mode from another: its widths and its weights.
 use Prim.Native.Nat.{ℕ, _-_, _^_}
+use mathlib.Core.Path.{_≡_}
+use mathlib.Core.Logic.{_⊎_}
 use mathlib.Core.List.{List, [], _∷_}
 use lib.Dec.{eqb}
 use lib.ListN.{getD}
@@ -21,7 +23,11 @@ mode1 = record { number = 1; channelBits = 6; indexBits = 3; pBits = 2; weights 
 abbrev pub mode3 : Mode
 mode3 = record { number = 3; channelBits = 7; indexBits = 2; pBits = 4; weights = 0 ∷ 21 ∷ 43 ∷ 64 ∷ [] }
 
--- the mode of a number that is 1 or 3
+-- the number of a mode that is here
+abbrev pub Known : ℕ → Type 0
+Known n = (n ≡ 1) ⊎ (n ≡ 3)
+
+-- the mode of such a number
 abbrev pub modeNumbered : ℕ → Mode
 modeNumbered n = pick (eqb n 1) mode1 mode3
 

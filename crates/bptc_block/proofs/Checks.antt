@@ -9,14 +9,14 @@ use lib.ListN.{getD, length}
 use lib.Pow.{le-ones, lt-of-le-ones}
 use borrow.Author.Tests.{eqb-true, eq-eqb, leb-true, le-leb, ltb-true, lt-ltb}
 use Rattle.bptc.specs.Tests.{all}
-use Rattle.bptc.specs.Mode.{Mode, mode1, mode3, modeNumbered, largest}
+use Rattle.bptc.specs.Mode.{Mode, mode1, mode3, Known, modeNumbered, largest}
 use Rattle.bptc.specs.Colour.{black, Below}
 use Rattle.bptc_block.specs.declared.PBits.{PBits}
 use Rattle.bptc_block.specs.declared.PBits.the-variants.{Free, Fixed}
 use Rattle.bptc_block.specs.declared.Candidate.{Candidate}
 use Rattle.bptc_block.specs.Packed.{modeOf}
 use Rattle.bptc_block.specs.Refusal.{unless, isMode, inRange, pInRange, checkPixels, checkBlock, checkCandidate, checkIndices, checkReadable}
-use Rattle.bptc_block.specs.Checks.{Check, passes, declines, Known, InMode, BitsWithin, PixelsChecked, BlockChecked, CandidateChecked, IndicesChecked, ReadableChecked}
+use Rattle.bptc_block.specs.Checks.{Check, passes, declines, InMode, BitsWithin, PixelsChecked, BlockChecked, CandidateChecked, IndicesChecked, ReadableChecked}
 use Rattle.bptc_block.proofs.Refusals.{one-or-three, is-mode, in-range, range-in, all-small, small-all}
 
 -- a check by its test, which says what passes

@@ -3,12 +3,11 @@
 use Prim.Native.Nat.{ℕ, suc, _≤_, _<_}
 use native.Mathlib.Omega.{arith}
 use mathlib.Core.Path.{_≡_, refl, sym, ap, _∙_}
-use mathlib.Core.Logic.{_⊎_}
 use mathlib.Core.List.{List}
 use lib.ListN.{getD}
 use Rattle.bptc.specs.declared.Rgb.{Rgb}
 use Rattle.bptc.specs.Rows.{overPixels}
-use Rattle.bptc.specs.Mode.{Mode, modeNumbered, largest}
+use Rattle.bptc.specs.Mode.{Mode, Known, modeNumbered, largest}
 use Rattle.bptc.specs.Partition.{subsetOf}
 use Rattle.bptc.specs.Colour.{black, coloursOf, distSq, Below}
 use Rattle.bptc.specs.Shown.{Stored}
@@ -53,7 +52,7 @@ unfolding apart apartAt
 apart-same m cs f g h = pixels-same _ _ (λ i l. ap (distSq (getD cs i black)) (h i l))
 
 -- a packed block lies as far as the fields before any exchange
-pub pack-distance : (mode : ℕ) (f : Fields) (known : (mode ≡ 1) ⊎ (mode ≡ 3)) → Plain (modeNumbered mode) f → (px : List ℕ) →
+pub pack-distance : (mode : ℕ) (f : Fields) (known : Known mode) → Plain (modeNumbered mode) f → (px : List ℕ) →
     distance px (packed (modeNumbered mode) (compressed (modeNumbered mode) f)) ≡ apart (modeNumbered mode) (coloursOf px) f
 unfolding distance
 pack-distance mode f known plain px =

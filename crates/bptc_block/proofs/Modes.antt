@@ -1,10 +1,10 @@
 -- All that the laws of packing, reading and finishing ask of a mode, and that modes 1 and 3 have it.
 use Prim.Native.Nat.{ℕ}
 use mathlib.Core.Path.{_≡_}
-use mathlib.Core.Logic.{_⊎_, inl, inr}
+use mathlib.Core.Logic.{inl, inr}
 use lib.Dec.{eqb}
 use borrow.Author.Tests.{ne-eqb}
-use Rattle.bptc.specs.Mode.{Mode, mode1, mode3, modeNumbered}
+use Rattle.bptc.specs.Mode.{Mode, mode1, mode3, Known, modeNumbered}
 use Rattle.bptc.proofs.Tests.{pick-elim}
 use Rattle.bptc.proofs.Modes.{Shades, shades1, shades3}
 use Rattle.bptc_block.proofs.Packed.{Filling, filling1, filling3}
@@ -26,7 +26,7 @@ lawful n =
     (λ t. record { shades = shades3; filling = filling3; turns = turns3; trials = trials3 })
 
 -- a mode of the two says its own number
-pub own-number : (n : ℕ) → (n ≡ 1) ⊎ (n ≡ 3) → modeNumbered n .number ≡ n
+pub own-number : (n : ℕ) → Known n → modeNumbered n .number ≡ n
 own-number n (inl e) = rw e
 own-number n (inr e) = rw e
 

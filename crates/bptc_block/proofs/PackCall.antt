@@ -3,14 +3,13 @@ use Prim.Native.Nat.{ℕ}
 use native.Mathlib.Omega.{arith}
 use mathlib.Core.Path.{_≡_, refl}
 use mathlib.Core.Bool.{true}
-use mathlib.Core.Logic.{_⊎_}
 use mathlib.Core.List.{List}
 use lib.Dec.{eqb, leb, le→leb, leb→le}
 use lib.ListN.{length}
 use lib.Pow.{le-ones, lt-of-le-ones}
 use borrow.Author.Tests.{eq-eqb, ne-eqb}
 use Rattle.bptc.specs.Tests.{all}
-use Rattle.bptc.specs.Mode.{modeNumbered, largest}
+use Rattle.bptc.specs.Mode.{Known, modeNumbered, largest}
 use Rattle.bptc_block.specs.declared.Fields.{Fields}
 use Rattle.bptc_block.specs.Fields.{Plain}
 use Rattle.bptc_block.specs.Packed.{packed}
@@ -59,7 +58,7 @@ module _ (mode : ℕ) (f : Fields) (part : List ℕ) where
         }
 
   -- and what is in range it accepts
-  pub pack-accepts : length part ≡ 16 → (mode ≡ 1) ⊎ (mode ≡ 3) → Plain (modeNumbered mode) f → packOf mode f part ≡ 0
+  pub pack-accepts : length part ≡ 16 → Known mode → Plain (modeNumbered mode) f → packOf mode f part ≡ 0
   unfolding packOf
   pack-accepts sixteen known plain =
       let g : Good (fixedAt mode f) =

@@ -2,13 +2,13 @@
 use Prim.Native.Nat.{ℕ, zero, suc, _<_}
 use native.Mathlib.Omega.{arith}
 use mathlib.Core.Path.{_≡_, refl, sym, _∙_}
-use mathlib.Core.Logic.{_⊎_, inl, inr}
+use mathlib.Core.Logic.{inl, inr}
 use mathlib.Core.List.{List}
 use lib.Dec.{eqb, ltb}
 use lib.ListN.{length, getD}
 use borrow.Author.Tests.{eqb-true, eq-eqb, ne-eqb, lt-ltb}
 use Rattle.bptc.specs.Digits.{zerosBelow}
-use Rattle.bptc.specs.Mode.{modeNumbered}
+use Rattle.bptc.specs.Mode.{Known, modeNumbered}
 use Rattle.bptc.specs.Colour.{bytesOf}
 use Rattle.bptc.proofs.Tests.{pick-map}
 use Rattle.bptc.proofs.Digits.{zeros-zero}
@@ -24,11 +24,11 @@ use Rattle.bptc_block.proofs.Refusals.{number-said, passed, one-or-thre
 use Rattle.bptc_block.proofs.Checks.{pixels-checked, block-checked, readable-checked}
 
 -- a block that says mode 1 or 3 does not begin with a zero byte
-some-byte : (block : List ℕ) → (modeOf block ≡ 1) ⊎ (modeOf block ≡ 3) → 0 < getD block 0 0
+some-byte : (block : List ℕ) → Known (modeOf block) → 0 < getD block 0 0
 unfolding modeOf
 some-byte block known = go (getD block 0 0) known
   where
-    go : (n : ℕ) → (zerosBelow 8 n ≡ 1) ⊎ (zerosBelow 8 n ≡ 3) → 0 < n
+    go : (n : ℕ) → Known (zerosBelow 8 n) → 0 < n
     go zero (inl e) = absurd (omega (arith, zeros-zero 8))
     go zero (inr e) = absurd (omega (arith, zeros-zero 8))
     go (suc n) k = omega arith
@@ -65,7 +65,7 @@ module _ (block px : List ℕ) where
   read-leaves ne = rw (ne-eqb (readRefusal block px) 0 (λ e. ne (read-number ∙ e)))
 
   -- a block of either mode is read, over parts of the right lengths
-  pub readable : length px ≡ 48 → length block ≡ 16 → (modeOf block ≡ 1) ⊎ (modeOf block ≡ 3) → readOf block px .refusal ≡ 0
+  pub readable : length px ≡ 48 → length block ≡ 16 → Known (modeOf block) → readOf block px .refusal ≡ 0
   unfolding readRefusal
   readable p b known =
       read-number
@@ -109,5 +109,5 @@ module _ (block px : List ℕ) where
         eqb-true (length block) 16 (passed (eqb (length block) 16) 1 _ e .0)
 
     -- and its mode is one of the two
-    pub read-known : (modeOf block ≡ 1) ⊎ (modeOf block ≡ 3)
+    pub read-known : Known (modeOf block)
     read-known = one-or-three (modeOf block) (passed (isMode (modeOf block)) 8 0 (passed (ltb 0 (getD block 0 0)) 7 _ after-lengths .1) .0)

@@ -3,7 +3,7 @@ use Prim.Native.Nat.{ℕ, _≤_, _<_}
 use native.Mathlib.Omega.{arith}
 use mathlib.Core.Path.{_≡_, sym, ap, _∙_}
 use mathlib.Core.Bool.{Bool}
-use mathlib.Core.Logic.{_⊎_, inl, inr}
+use mathlib.Core.Logic.{inl, inr}
 use mathlib.Core.List.{List}
 use lib.Count.{trailingZeros}
 use lib.Dec.{ltb, eqb, eqb→eq}
@@ -11,6 +11,7 @@ use lib.ListN.{getD}
 use borrow.Author.Tests.{ne-eqb, lt-ltb, le-ltb}
 use Rattle.bptc.specs.Tests.{pick}
 use Rattle.bptc.specs.Digits.{zerosBelow}
+use Rattle.bptc.specs.Mode.{Known}
 use Rattle.bptc.proofs.Tables.{tested}
 use Rattle.bptc.proofs.Digits.{zeros-is}
 use Rattle.bptc_block.specs.Packed.{modeOf}
@@ -34,7 +35,7 @@ unfolding modeOf
 readable block h = by-byte (getD block 0 0) h ∙ ap byZeros (sym (zeros-is 8 (getD block 0 0)))
 
 -- of a mode that is not 1 or 3
-pub zeros-other : (z : ℕ) → ((z ≡ 1) ⊎ (z ≡ 3) → ⊥) → z < 8 → byZeros z ≡ 9
+pub zeros-other : (z : ℕ) → (Known z → ⊥) → z < 8 → byZeros z ≡ 9
 zeros-other z n h = rw (ne-eqb z 1 (λ e. n (inl e)), ne-eqb z 3 (λ e. n (inr e)), lt-ltb z 8 h)
 
 -- of no mode

@@ -4,7 +4,7 @@ use native.Mathlib.Nat.{lt-of-le-of-lt}
 use native.Mathlib.Omega.{arith}
 use mathlib.Core.Path.{_≡_, refl, sym, subst}
 use mathlib.Core.Bool.{Bool, true, false}
-use mathlib.Core.Logic.{_⊎_, inl, inr}
+use mathlib.Core.Logic.{inl, inr}
 use mathlib.Core.List.{List, [], _∷_}
 use lib.Dec.{T, lit<, eqb, leb}
 use lib.ListN.{length, getD}
@@ -12,7 +12,7 @@ use lib.Pow.{pow-pos, le-ones, lt-of-le-ones}
 use borrow.Author.Tests.{eqb-true, leb-true, le-leb}
 use Rattle.bptc.specs.declared.Rgb.{Rgb}
 use Rattle.bptc.specs.Tests.{pick, or, all}
-use Rattle.bptc.specs.Mode.{modeNumbered}
+use Rattle.bptc.specs.Mode.{Known, modeNumbered}
 use Rattle.bptc.specs.Colour.{black, Below}
 use Rattle.bptc.proofs.Tests.{pick-elim, and-true}
 use Rattle.bptc.proofs.ColourBounds.{below-black}
@@ -35,15 +35,15 @@ declined true false k l rest ne = refl
 declined false u k l rest ne = refl
 
 -- what the test of a mode says
-pub one-or-three : (n : ℕ) → isMode n ≡ true → (n ≡ 1) ⊎ (n ≡ 3)
+pub one-or-three : (n : ℕ) → isMode n ≡ true → Known n
 one-or-three n e = go (eqb n 1) refl e
   where
-    go : (t : Bool) → eqb n 1 ≡ t → or t (eqb n 3) ≡ true → (n ≡ 1) ⊎ (n ≡ 3)
+    go : (t : Bool) → eqb n 1 ≡ t → or t (eqb n 3) ≡ true → Known n
     go true q e = inl (eqb-true n 1 q)
     go false q e = inr (eqb-true n 3 e)
 
 -- and back
-pub is-mode : (n : ℕ) → (n ≡ 1) ⊎ (n ≡ 3) → isMode n ≡ true
+pub is-mode : (n : ℕ) → Known n → isMode n ≡ true
 is-mode n (inl e) = rw e
 is-mode n (inr e) = rw e
 
@@ -81,7 +81,7 @@ small-all top (x ∷ is) h = rw (le-leb x top (omega (arith, h 0 (omega arith)))
 
 -- a candidate that no check declines
 pub record Good (c : Candidate) : Type 0 where
-  pub mode : (c .mode ≡ 1) ⊎ (c .mode ≡ 3)
+  pub mode : Known (c .mode)
   pub partition : c .partition < 64
   pub stored : (k : ℕ) → k < length (c .ends) → Below (2 ^ modeNumbered (c .mode) .channelBits) (getD (c .ends) k black)
   pub p : T (pInRange (2 ^ modeNumbered (c .mode) .pBits - 1) (c .p))

@@ -1,10 +1,10 @@
 -- The round trips: reading after packing, and packing after reading.
 use Prim.Native.Nat.{ℕ}
 use mathlib.Core.Path.{_≡_, refl, sym, ap}
-use mathlib.Core.Logic.{_⊎_, inl, inr}
+use mathlib.Core.Logic.{inl, inr}
 use mathlib.Core.List.{List}
 use lib.ListN.{length}
-use Rattle.bptc.specs.Mode.{Mode, modeNumbered, largest}
+use Rattle.bptc.specs.Mode.{Mode, Known, modeNumbered, largest}
 use Rattle.bptc.specs.Colour.{black, bytesOf}
 use Rattle.bptc.proofs.Rows.{each-same}
 use Rattle.bptc_block.specs.declared.Fields.{Fields}
@@ -24,13 +24,13 @@ use Rattle.bptc_block.proofs.PackCall.{pack-block, pack-accepts}
 use Rattle.bptc_block.proofs.ReadCall.{readable, read-answer, read-pixels}
 
 -- fields in range may be packed, in a mode that is one of the two
-in-range : (mode : ℕ) (f : Fields) → InRange mode f → ((mode ≡ 1) ⊎ (mode ≡ 3)) × Plain (modeNumbered mode) f
+in-range : (mode : ℕ) (f : Fields) → InRange mode f → Known mode × Plain (modeNumbered mode) f
 unfolding largest
 in-range mode f (inl (e, within)) = rw e (inl refl, within)
 in-range mode f (inr (e, within)) = rw e (inr refl, within)
 
 -- a packed block says its mode, holds the exchanged fields and shows the colours of those handed in
-module _ (mode : ℕ) (f : Fields) (known : (mode ≡ 1) ⊎ (mode ≡ 3)) (plain : Plain (modeNumbered mode) f) where
+module _ (mode : ℕ) (f : Fields) (known : Known mode) (plain : Plain (modeNumbered mode) f) where
   -- the mode
   abbrev m : Mode
   m = modeNumbered mode

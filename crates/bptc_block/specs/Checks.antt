@@ -1,9 +1,9 @@
 -- The list of refusals in plain numbers.
 use Prim.Native.Nat.{ℕ, _≤_, _<_}
 use mathlib.Core.Path.{_≡_}
-use mathlib.Core.Logic.{_⊎_}
 use mathlib.Core.List.{List}
 use lib.ListN.{getD, length}
+use Rattle.bptc.specs.Mode.{Known}
 use Rattle.bptc.specs.Colour.{black, Below}
 use Rattle.bptc_block.specs.declared.PBits.{PBits}
 use Rattle.bptc_block.specs.declared.PBits.the-variants.{Free, Fixed}
@@ -18,10 +18,6 @@ Accepted n = n ≡ 0
 pub data Check (number : ℕ) (Passes : Type 0) (Later : ℕ → Type 0) (n : ℕ) : Type 0 where
   passes : Passes → Later n → Check number Passes Later n
   declines : (Passes → ⊥) → n ≡ number → Check number Passes Later n
-
--- a mode's number is 1 or 3
-abbrev pub Known : ℕ → Type 0
-Known mode = (mode ≡ 1) ⊎ (mode ≡ 3)
 
 -- a statement about a limit, which is one number in mode 1 and another in mode 3
 abbrev pub InMode : ℕ → (ℕ → Type 0) → ℕ → ℕ → Type 0

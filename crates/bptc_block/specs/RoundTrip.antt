@@ -1,11 +1,10 @@
 -- What reading, packing and measuring promise of each other, through the definitions that the calls' contracts cite.
 use Prim.Native.Nat.{ℕ, _<_}
 use mathlib.Core.Path.{_≡_}
-use mathlib.Core.Logic.{_⊎_}
 use mathlib.Core.List.{List}
 use lib.ListN.{getD, length}
 use Rattle.bptc.specs.Bytes.{Bytes}
-use Rattle.bptc.specs.Mode.{Mode, modeNumbered}
+use Rattle.bptc.specs.Mode.{Mode, Known, modeNumbered}
 use Rattle.bptc.specs.Colour.{black, bytesOf, coloursOf}
 use Rattle.bptc_block.specs.declared.Fields.{Fields}
 use Rattle.bptc_block.specs.Packed.{modeOf, fieldsOf}
@@ -20,7 +19,7 @@ use Rattle.bptc_block.specs.Packs.{InRange}
 pub record Block (block : List ℕ) : Type 0 where
   pub sixteen : length block ≡ 16
   pub bytes : Bytes block
-  pub mode : (modeOf block ≡ 1) ⊎ (modeOf block ≡ 3)
+  pub mode : Known (modeOf block)
 
 -- such a block is read, and packing the fields read, with the same mode, gives the same sixteen bytes
 abbrev pub PackedAsRead : Type 0

@@ -3,13 +3,13 @@ use Prim.Native.Nat.{ℕ, _-_, _^_}
 use native.Mathlib.Omega.{arith}
 use mathlib.Core.Path.{_≡_, sym, ap, _∙_, subst}
 use mathlib.Core.Bool.{Bool, true, false}
-use mathlib.Core.Logic.{_⊎_, inl, inr}
+use mathlib.Core.Logic.{inl, inr}
 use mathlib.Core.List.{List}
 use lib.Dec.{T, eqb}
 use lib.ListN.{length}
 use Rattle.bptc.specs.Tests.{pick}
 use Rattle.bptc.specs.Bytes.{Bytes}
-use Rattle.bptc.specs.Mode.{mode1, mode3, modeNumbered}
+use Rattle.bptc.specs.Mode.{mode1, mode3, Known, modeNumbered}
 use Rattle.bptc.specs.Colour.{coloursOf}
 use Rattle.bptc.specs.Shown.{Stored}
 use Rattle.bptc.proofs.ColourBounds.{pixels-shown, colours-length}
@@ -29,7 +29,7 @@ use Rattle.bptc_block.proofs.Rust.Agree.{finished, rust1, rust3}
 abbrev WithinMode : ℕ → Candidate → Type 0
 WithinMode n c = CandidateWithin (2 ^ modeNumbered n .channelBits) (2 ^ modeNumbered n .pBits) c
 
-within-good : (c : Candidate) → (c .mode ≡ 1) ⊎ (c .mode ≡ 3) → WithinMode (c .mode) c → Good c
+within-good : (c : Candidate) → Known (c .mode) → WithinMode (c .mode) c → Good c
 within-good c known within =
     record {
       mode = known;

@@ -1,17 +1,16 @@
 -- `bits::reading::fields` meets its contract: each part is read at its place.
 use Prim.Native.Nat.{ℕ, _+_, _<_}
 use native.Mathlib.Omega.{arith}
-use mathlib.Core.Path.{_≡_, sym, ap}
-use mathlib.Core.Logic.{_⊎_}
+use mathlib.Core.Path.{sym, ap}
 use borrow.Author.Needs.{needs}
-use Rattle.bptc.specs.Mode.{modeNumbered}
+use Rattle.bptc.specs.Mode.{Known, modeNumbered}
 use Rattle.bptc_block.proofs.Places.{first-index, fields-read}
 use Rattle.bptc_block.proofs.Modes.{lawful, own-number}
 use Rattle.bits.proofs.reading.fields.Statement.{statement}
 use Rattle.bits.proofs.reading.fields.Tie as tie
 
 -- the mode is low, so that every field begins inside
-low : (n : ℕ) → (n ≡ 1) ⊎ (n ≡ 3) → n < 8
+low : (n : ℕ) → Known n → n < 8
 low n h = rw (own-number n h) at (lawful n .filling .low)
 
 channel-bits-requires : tie.Need-channel-bits-requires
