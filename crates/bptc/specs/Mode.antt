@@ -23,7 +23,7 @@ mode1 = record { number = 1; channelBits = 6; indexBits = 3; pBits = 2; weights 
 abbrev pub mode3 : Mode
 mode3 = record { number = 3; channelBits = 7; indexBits = 2; pBits = 4; weights = 0 ∷ 21 ∷ 43 ∷ 64 ∷ [] }
 
--- the number of a mode that is here
+-- the number of one of the two modes
 abbrev pub Known : ℕ → Type 0
 Known n = (n ≡ 1) ⊎ (n ≡ 3)
 

@@ -27,10 +27,10 @@ check Passes Later false k rest says back later = declines (λ p. true≢false (
 
 -- a limit by a mode's record, in plain numbers
 in-mode : (P : ℕ → Type 0) (limit : Mode → ℕ) (n : ℕ) → P (limit (modeNumbered n)) → InMode n P (limit mode1) (limit mode3)
-in-mode P limit n h = (
-  (λ e. subst (λ (m : ℕ). P (limit (modeNumbered m))) e h),
-  (λ e. subst (λ (m : ℕ). P (limit (modeNumbered m))) e h),
-)
+in-mode P limit n h = (at 1, at 3)
+  where
+    at : (k : ℕ) → n ≡ k → P (limit (modeNumbered k))
+    at k e = subst (λ (m : ℕ). P (limit (modeNumbered m))) e h
 
 -- and back
 mode-in : (P : ℕ → Type 0) (limit : Mode → ℕ) (n : ℕ) → Known n → InMode n P (limit mode1) (limit mode3) → P (limit (modeNumbered n))

@@ -6,12 +6,11 @@ use mathlib.Core.List.{List}
 use lib.Dec.{eqb}
 use lib.ListN.{length}
 use borrow.Author.Tests.{eqb-true, eq-eqb, ne-eqb}
-use Rattle.bptc.proofs.Tests.{pick-map}
 use Rattle.bptc_block.specs.declared.Candidate.{Candidate}
 use Rattle.bptc_block.specs.declared.Finished.{Finished}
 use Rattle.bptc_block.specs.Finish.{finish}
 use Rattle.bptc_block.specs.Refusal.{checkBlock, checkCandidate}
-use Rattle.bptc_block.specs.Checks.{Accepted, PixelsChecked, BlockChecked, CandidateChecked}
+use Rattle.bptc_block.specs.Checks.{NotDeclined, PixelsChecked, BlockChecked, CandidateChecked}
 use Rattle.bptc_block.specs.FinishCall.{finishRefusal, finishOf, finishInto}
 use Rattle.bptc_block.proofs.Refusals.{Good, number-said, passed, good}
 use Rattle.bptc_block.proofs.Checks.{pixels-checked, block-checked, candidate-checked}
@@ -20,15 +19,14 @@ module _ (px : List ℕ) (c : Candidate) (block : List ℕ) where
   -- the number in the answer
   pub finish-number : finishOf px c block .refusal ≡ finishRefusal px c block
   unfolding finishOf
-  finish-number =
-      pick-map (λ (a : Finished). a .refusal) (eqb (finishRefusal px c block) 0) _ _ ∙ number-said (finishRefusal px c block)
+  finish-number = number-said (λ (a : Finished). a .refusal) (finishRefusal px c block) refl refl
 
   -- by checks 1 to 6
-  pub finish-checked : PixelsChecked px (BlockChecked block (CandidateChecked c Accepted)) (finishOf px c block .refusal)
+  pub finish-checked : PixelsChecked px (BlockChecked block (CandidateChecked c NotDeclined)) (finishOf px c block .refusal)
   unfolding finishRefusal
   finish-checked =
-      subst (PixelsChecked px (BlockChecked block (CandidateChecked c Accepted))) (sym finish-number)
-      (pixels-checked _ _ px (block-checked _ _ block (candidate-checked Accepted 0 c (λ known. refl))))
+      subst (PixelsChecked px (BlockChecked block (CandidateChecked c NotDeclined))) (sym finish-number)
+      (pixels-checked _ _ px (block-checked _ _ block (candidate-checked NotDeclined 0 c (λ known. refl))))
 
   -- over parts of the right lengths the candidate alone decides
   pub finish-declines : length px ≡ 48 → length block ≡ 16 → finishOf px c block .refusal ≡ checkCandidate c 0

@@ -15,17 +15,17 @@ use Rattle.bptc_block.specs.Fields.{Plain}
 use Rattle.bptc_block.specs.Packed.{packed}
 use Rattle.bptc_block.specs.Exchange.{compressed}
 use Rattle.bptc_block.specs.Refusal.{checkCandidate, checkIndices}
-use Rattle.bptc_block.specs.Checks.{Accepted, BlockChecked, CandidateChecked, IndicesChecked}
+use Rattle.bptc_block.specs.Checks.{NotDeclined, BlockChecked, CandidateChecked, IndicesChecked}
 use Rattle.bptc_block.specs.PackCall.{fixedAt, packOf, packInto}
 use Rattle.bptc_block.proofs.Refusals.{Good, passed, all-small, small-all, good, checked}
 use Rattle.bptc_block.proofs.Checks.{block-checked, candidate-checked, indices-checked}
 
 module _ (mode : ℕ) (f : Fields) (part : List ℕ) where
   -- the number that it answers, by checks 2 to 7
-  pub pack-checked : BlockChecked part (CandidateChecked (fixedAt mode f) (IndicesChecked mode (f .indices) Accepted)) (packOf mode f part)
+  pub pack-checked : BlockChecked part (CandidateChecked (fixedAt mode f) (IndicesChecked mode (f .indices) NotDeclined)) (packOf mode f part)
   unfolding packOf
   pack-checked =
-      block-checked _ _ part (candidate-checked _ _ (fixedAt mode f) (λ known. indices-checked Accepted 0 mode known (f .indices) refl))
+      block-checked _ _ part (candidate-checked _ _ (fixedAt mode f) (λ known. indices-checked NotDeclined 0 mode known (f .indices) refl))
 
   -- a declined call leaves the part as it was
   pub pack-leaves : (packOf mode f part ≡ 0 → ⊥) → packInto mode f part ≡ part

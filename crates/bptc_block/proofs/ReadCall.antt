@@ -10,14 +10,13 @@ use borrow.Author.Tests.{eqb-true, eq-eqb, ne-eqb, lt-ltb}
 use Rattle.bptc.specs.Digits.{zerosBelow}
 use Rattle.bptc.specs.Mode.{Known, modeNumbered}
 use Rattle.bptc.specs.Colour.{bytesOf}
-use Rattle.bptc.proofs.Tests.{pick-map}
 use Rattle.bptc.proofs.Digits.{zeros-zero}
 use Rattle.bptc_block.specs.declared.Reading.{Reading}
 use Rattle.bptc_block.specs.declared.Measured.{Measured}
 use Rattle.bptc_block.specs.Packed.{modeOf, fieldsOf}
 use Rattle.bptc_block.specs.Chapter.{colours, distance}
 use Rattle.bptc_block.specs.Refusal.{isMode, checkBlock, checkReadable}
-use Rattle.bptc_block.specs.Checks.{Accepted, PixelsChecked, BlockChecked, ReadableChecked}
+use Rattle.bptc_block.specs.Checks.{NotDeclined, PixelsChecked, BlockChecked, ReadableChecked}
 use Rattle.bptc_block.specs.ReadCall.{readRefusal, readingOf, unread, readOf, readInto}
 use Rattle.bptc_block.specs.MeasureCall.{measureOf}
 use Rattle.bptc_block.proofs.Refusals.{number-said, passed, one-or-three, is-mode}
@@ -37,17 +36,17 @@ module _ (block px : List ℕ) where
   -- the number in the answer
   pub read-number : readOf block px .refusal ≡ readRefusal block px
   unfolding readOf
-  read-number = pick-map (λ (a : Reading). a .refusal) (eqb (readRefusal block px) 0) _ _ ∙ number-said (readRefusal block px)
+  read-number = number-said (λ (a : Reading). a .refusal) (readRefusal block px) refl refl
 
   -- by checks 1, 2, 8 and 9
-  pub read-checked : PixelsChecked px (BlockChecked block (ReadableChecked block Accepted)) (readRefusal block px)
+  pub read-checked : PixelsChecked px (BlockChecked block (ReadableChecked block NotDeclined)) (readRefusal block px)
   unfolding readRefusal
-  read-checked = pixels-checked _ _ px (block-checked _ _ block (readable-checked Accepted 0 block refl))
+  read-checked = pixels-checked _ _ px (block-checked _ _ block (readable-checked NotDeclined 0 block refl))
 
   -- measuring answers the same number
   pub measure-number : measureOf block px .refusal ≡ readRefusal block px
   unfolding measureOf
-  measure-number = pick-map (λ (a : Measured). a .refusal) (eqb (readRefusal block px) 0) _ _ ∙ number-said (readRefusal block px)
+  measure-number = number-said (λ (a : Measured). a .refusal) (readRefusal block px) refl refl
 
   -- a declined call answers the number and leaves all else zero
   pub read-declined : (readRefusal block px ≡ 0 → ⊥) → readOf block px ≡ unread (readRefusal block px)

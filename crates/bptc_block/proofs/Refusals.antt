@@ -2,7 +2,7 @@
 use Prim.Native.Nat.{ℕ, zero, suc, _-_, _^_, _<_}
 use native.Mathlib.Nat.{lt-of-le-of-lt}
 use native.Mathlib.Omega.{arith}
-use mathlib.Core.Path.{_≡_, refl, sym, subst}
+use mathlib.Core.Path.{_≡_, refl, sym, _∙_, subst}
 use mathlib.Core.Bool.{Bool, true, false}
 use mathlib.Core.Logic.{inl, inr}
 use mathlib.Core.List.{List, [], _∷_}
@@ -19,9 +19,9 @@ use Rattle.bptc.proofs.ColourBounds.{below-black}
 use Rattle.bptc_block.specs.declared.Candidate.{Candidate}
 use Rattle.bptc_block.specs.Refusal.{unless, isMode, within, inRange, pInRange, checkCandidate}
 
--- an answer's number is 0 or the refusal's, so it is the refusal's
-pub number-said : (r : ℕ) → pick (eqb r 0) 0 r ≡ r
-number-said r = pick-elim (λ (n : ℕ). n ≡ r) (eqb r 0) (λ t. sym (eqb-true r 0 t)) (λ t. refl)
+-- the number in an answer: 0 where nothing is declined, and else the refusal's
+pub number-said : {A : Type 0} (number : A → ℕ) (r : ℕ) {a b : A} → number a ≡ 0 → number b ≡ r → number (pick (eqb r 0) a b) ≡ r
+number-said {A} number r none some = pick-elim (λ (x : A). number x ≡ r) (eqb r 0) (λ t. none ∙ sym (eqb-true r 0 t)) (λ t. some)
 
 -- a check that declines nothing
 pub passed : (t : Bool) (k rest : ℕ) → unless t (suc k) rest ≡ 0 → (t ≡ true) × (rest ≡ 0)

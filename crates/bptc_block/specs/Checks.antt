@@ -10,9 +10,9 @@ use Rattle.bptc_block.specs.declared.PBits.the-variants.{Free, Fixed}
 use Rattle.bptc_block.specs.declared.Candidate.{Candidate}
 use Rattle.bptc_block.specs.Packed.{modeOf}
 
--- no check is left: nothing is declined
-abbrev pub Accepted : ℕ → Type 0
-Accepted n = n ≡ 0
+-- no check is left
+abbrev pub NotDeclined : ℕ → Type 0
+NotDeclined n = n ≡ 0
 
 -- what a check says of the number that is answered: it passes, and the later ones decide, or it does not, and its number is given
 pub data Check (number : ℕ) (Passes : Type 0) (Later : ℕ → Type 0) (n : ℕ) : Type 0 where

@@ -1,8 +1,10 @@
 // Pixels finished with a candidate, and the refusals of finish.
+use crate::inputs::ANY;
 use crate::inputs::changed;
 use crate::inputs::draw;
 use crate::inputs::fill;
 use crate::inputs::level;
+use crate::inputs::of_kind;
 use crate::out::line;
 use crate::out::put;
 use crate::out::put_byte;
@@ -163,44 +165,24 @@ pub(crate) fn put_numbers() {
     put_finish(3, 63, 127, 15, &pixels, &mut part);
 }
 
-// A drawn byte of a kind: as it is, near 100, 0 or 255, near 0, 0 or 1, 0.
-fn of_kind(kind: u8, b: u8) -> u8 {
-    match kind {
-        0 => b,
-        1 => 96 + b % 8,
-        2 => b / 128 * 255,
-        3 => b % 8,
-        4 => b % 2,
-        _ => 0,
-    }
-}
-
-// Makes every drawn byte of a part one of a kind.
-pub(crate) fn shape(kind: u8, part: &mut [u8]) {
-    let mut i: usize = 0;
-    while i < part.len() {
-        part[i] = of_kind(kind, part[i]);
-        i += 1;
-    }
-}
-
-// The stored channel of a mode that shows nearly this byte.
-fn channel(mode: u8, b: u8) -> u8 {
+// The stored channel of a mode that shows nearly this byte, made one of a kind.
+fn channel(kind: u8, mode: u8, b: u8) -> u8 {
+    let v = of_kind(kind, b);
     match mode {
-        1 => b / 4,
-        _ => b / 2,
+        1 => v / 4,
+        _ => v / 2,
     }
 }
 
-// Four endpoints that show nearly the first twelve bytes.
-fn ends_near(mode: u8, bytes: &[u8; 13]) -> [Rgb; 4] {
+// Four endpoints that show nearly the first twelve bytes, made ones of a kind.
+fn ends_near(kind: u8, mode: u8, bytes: &[u8; 13]) -> [Rgb; 4] {
     let mut ends = level(0);
     let mut k: usize = 0;
     while k < 4 {
         ends[k] = Rgb {
-            r: channel(mode, bytes[k * 3]),
-            g: channel(mode, bytes[k * 3 + 1]),
-            b: channel(mode, bytes[k * 3 + 2]),
+            r: channel(kind, mode, bytes[k * 3]),
+            g: channel(kind, mode, bytes[k * 3 + 1]),
+            b: channel(kind, mode, bytes[k * 3 + 2]),
         };
         k += 1;
     }
@@ -217,10 +199,13 @@ fn p_bits(mode: u8, b: u8) -> u8 {
 
 // A candidate with endpoints of a kind from the first twelve drawn bytes, and fixed p-bits from the last.
 pub(crate) fn fixed_of(kind: u8, mode: u8, partition: u8, drawn: [u8; 13]) -> Candidate {
-    let mut bytes = drawn;
-    shape(kind, &mut bytes);
     let p = p_bits(mode, drawn[12]);
-    proposal(mode, partition, ends_near(mode, &bytes), PBits::Fixed(p))
+    proposal(
+        mode,
+        partition,
+        ends_near(kind, mode, &drawn),
+        PBits::Fixed(p),
+    )
 }
 
 // A candidate with free p-bits.
@@ -233,9 +218,8 @@ pub(crate) fn freed(c: Candidate) -> Candidate {
 fn put_drawn(mode: u8, partition: u8, seed: u64) -> u64 {
     let mut pixels = [0u8; 48];
     let mut bytes = [0u8; 13];
-    let middle = draw(seed, &mut pixels);
-    let after = draw(middle, &mut bytes);
-    shape(partition % 4, &mut pixels);
+    let middle = draw(seed, partition % 4, &mut pixels);
+    let after = draw(middle, ANY, &mut bytes);
     let fixed = fixed_of(partition % 4, mode, partition, bytes);
     put_finished(b"fixed", &pixels, fixed);
     put_finished(b"free", &pixels, freed(fixed));

@@ -4,6 +4,9 @@ use block::Rgb;
 // What a part holds before a call that may decline it.
 const KEPT: u8 = 165;
 
+// The kind of any drawn byte.
+pub(crate) const ANY: u8 = 0;
+
 // Fills a part.
 pub(crate) fn fill(part: &mut [u8]) {
     let mut i: usize = 0;
@@ -49,13 +52,25 @@ fn next(seed: u64) -> u64 {
     (seed % 2147483648 * 1103515245 + 12345) % 2147483648
 }
 
-// Draws every byte of a part.
-pub(crate) fn draw(seed: u64, part: &mut [u8]) -> u64 {
+// A drawn byte of a kind: any, near 100, 0 or 255, near 0, 0 or 1, 0.
+pub(crate) fn of_kind(kind: u8, b: u8) -> u8 {
+    match kind {
+        0 => b,
+        1 => 96 + b % 8,
+        2 => b / 128 * 255,
+        3 => b % 8,
+        4 => b % 2,
+        _ => 0,
+    }
+}
+
+// Draws every byte of a part, all of one kind. Gives the generator's number after them.
+pub(crate) fn draw(seed: u64, kind: u8, part: &mut [u8]) -> u64 {
     let mut s = seed;
     let mut i: usize = 0;
     while i < part.len() {
         s = next(s);
-        part[i] = (s / 65536 % 256) as u8;
+        part[i] = of_kind(kind, (s / 65536 % 256) as u8);
         i += 1;
     }
     s

@@ -6,7 +6,7 @@ use crate::finishes::ends_with;
 use crate::finishes::fixed_of;
 use crate::finishes::freed;
 use crate::finishes::proposal;
-use crate::finishes::shape;
+use crate::inputs::ANY;
 use crate::inputs::changed;
 use crate::inputs::differences;
 use crate::inputs::draw;
@@ -58,8 +58,8 @@ fn count(n: u32, more: bool) -> u32 {
 fn numbered(kind: u8, pool: u64, n: u64) -> Candidate {
     let mut bytes = [0u8; 13];
     let mut how = [0u8; 3];
-    let middle = draw(pool % 2147483648 + n % 8 * 65537, &mut bytes);
-    draw(middle, &mut how);
+    let middle = draw(pool % 2147483648 + n % 8 * 65537, ANY, &mut bytes);
+    draw(middle, ANY, &mut how);
     let c = fixed_of(kind, how[0] % 2 * 2 + 1, how[1] % 64, bytes);
     match how[2] % 2 {
         0 => c,
@@ -154,7 +154,7 @@ fn takes_other(run: Run, which: u8) -> Run {
 // Draws one call, of a candidate among eight, and makes it.
 fn call(mut run: Run, pixels: &[u8], kind: u8, pool: u64) -> Run {
     let mut drawn = [0u8; 3];
-    run.seed = draw(run.seed, &mut drawn);
+    run.seed = draw(run.seed, ANY, &mut drawn);
     let c = numbered(kind, pool, (drawn[1] % 8) as u64);
     match drawn[0] % 8 {
         5 => offers(run, pixels, spoiled(drawn[2] % 4, c)),
@@ -209,8 +209,7 @@ fn put_run(run: Run) {
 // Draws pixels of a kind, and a list of calls over them.
 fn put_list(total: Total, kind: u8) -> Total {
     let mut pixels = [0u8; 48];
-    let seed = draw(total.seed, &mut pixels);
-    shape(kind, &mut pixels);
+    let seed = draw(total.seed, kind, &mut pixels);
     let start = begin(&pixels, seed, total.wrong);
     let end = takes(calls(start, &pixels, kind, seed));
     put_run(end);
@@ -270,7 +269,6 @@ fn put_each(pixels: &[u8], kind: u8, pool: u64) {
 // Draws pixels of a kind, and offers four drawn candidates over them in every order.
 pub(crate) fn put_orders(kind: u8) {
     let mut pixels = [0u8; 48];
-    let pool = draw(kind as u64, &mut pixels);
-    shape(kind, &mut pixels);
+    let pool = draw(kind as u64, kind, &mut pixels);
     put_each(&pixels, kind, pool);
 }

@@ -1,4 +1,5 @@
 // Blocks read and measured, the refusals of both, and drawn blocks that are read, packed again and measured.
+use crate::inputs::ANY;
 use crate::inputs::changed;
 use crate::inputs::differences;
 use crate::inputs::draw;
@@ -131,7 +132,7 @@ fn comes_back(part: &[u8; 16], r: Reading, pixels: &[u8]) -> bool {
 // Draws a block of a mode, reads it, and measures it against the ramp.
 fn try_block(mode: u8, seed: u64, sum: u32) -> Tried {
     let mut part = [0u8; 16];
-    let after = draw(seed, &mut part);
+    let after = draw(seed, ANY, &mut part);
     part[0] = marked(mode, part[0]);
     let mut pixels = [0u8; 48];
     let r = block::read(&part, &mut pixels);

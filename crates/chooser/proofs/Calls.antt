@@ -7,7 +7,7 @@ use lib.Dec.{eqb}
 use lib.ListN.{length, replicate}
 use borrow.Author.Tests.{eqb-true, eq-eqb, ne-eqb}
 use Rattle.bptc.specs.Bytes.{Bytes}
-use Rattle.bptc.proofs.Tests.{pick-elim, pick-map}
+use Rattle.bptc.proofs.Tests.{pick-elim}
 use Rattle.bptc.proofs.Bytes.{zero-bytes}
 use Rattle.bptc_block.specs.declared.Candidate.{Candidate}
 use Rattle.bptc_block.specs.declared.Finished.{Finished}
@@ -61,7 +61,8 @@ module _ (ch : Chooser) (c : Candidate) where
 
   -- its number
   pub offer-number : offerOf ch c .refusal ≡ offerRefusal c
-  offer-number = offer-cases (λ (o : Offered). o .refusal ≡ offerRefusal c) (λ e. sym e) (λ t. refl)
+  unfolding offerOf
+  offer-number = number-said (λ (o : Offered). o .refusal) (offerRefusal c) refl refl
 
   -- a declined one
   pub offer-declined : (offerRefusal c ≡ 0 → ⊥) → offerOf ch c ≡ record { refusal = offerRefusal c; chooser = ch }
@@ -98,7 +99,7 @@ module _ (ch : Chooser) (part : List ℕ) where
   -- its number
   pub take-number : takeOf ch part .answer .refusal ≡ takeRefusal part
   unfolding takeOf
-  take-number = pick-map (λ (a : Taken). a .refusal) (eqb (takeRefusal part) 0) _ _ ∙ number-said (takeRefusal part)
+  take-number = number-said (λ (a : Taken). a .refusal) (takeRefusal part) refl refl
 
   -- lent 16 bytes
   module _ (sixteen : length part ≡ 16) where

@@ -4,7 +4,7 @@ use lib.ListN.{length}
 use borrow.Author.Tests.{eq-eqb}
 use Rattle.bptc_block.specs.declared.Finished.{Finished}
 use Rattle.bptc_block.specs.declared.Measured.{Measured}
-use Rattle.bptc_block.specs.Checks.{Accepted, PixelsChecked, BlockChecked, CandidateChecked, ReadableChecked}
+use Rattle.bptc_block.specs.Checks.{NotDeclined, PixelsChecked, BlockChecked, CandidateChecked, ReadableChecked}
 use Rattle.bptc_block.specs.ReadCall.{unread}
 use Rattle.bptc_block.specs.FinishCall.{finishRefusal}
 use Rattle.bptc_block.proofs.Checks.{pixels-checked, block-checked, candidate-checked}
@@ -29,29 +29,29 @@ demand1 =
           };
       start = λ px.
           record {
-            checked = rw (start-answer px) (pixels-checked Accepted 0 px refl);
+            checked = rw (start-answer px) (pixels-checked NotDeclined 0 px refl);
             left = λ ne. rw (start-answer px, started-black px (λ e. ne (rw (start-answer px, eq-eqb (length px) 48 e))));
           };
       offer = λ ch c.
           record {
-            checked = subst (CandidateChecked c Accepted) (sym (offer-number ch c)) (candidate-checked Accepted 0 c (λ known. refl));
+            checked = subst (CandidateChecked c NotDeclined) (sym (offer-number ch c)) (candidate-checked NotDeclined 0 c (λ known. refl));
             left = λ ne. ap (λ (o : Offered). o .chooser) (offer-declined ch c (λ e. ne (offer-number ch c ∙ e)));
           };
       take = λ ch block.
           record {
-            checked = subst (BlockChecked block Accepted) (sym (take-number ch block)) (block-checked Accepted 0 block refl);
+            checked = subst (BlockChecked block NotDeclined) (sym (take-number ch block)) (block-checked NotDeclined 0 block refl);
             left = λ ne.
                 let other : length block ≡ 16 → ⊥ = λ e. ne (ap (λ (t : Took). t .answer .refusal) (take-answer ch block e)) in
                 (ap (λ (t : Took). t .answer .error) (take-declined ch block other), take-leaves ch block other);
           };
       read = λ block px.
           record {
-            checked = subst (PixelsChecked px (BlockChecked block (ReadableChecked block Accepted))) (sym (read-number block px)) (read-checked block px);
+            checked = subst (PixelsChecked px (BlockChecked block (ReadableChecked block NotDeclined))) (sym (read-number block px)) (read-checked block px);
             left = λ ne. (read-declined block px (λ e. ne (read-number block px ∙ e)) ∙ ap unread (sym (read-number block px)), read-leaves block px ne);
           };
       measure = λ block px.
           record {
-            checked = subst (PixelsChecked px (BlockChecked block (ReadableChecked block Accepted))) (sym (measure-number block px)) (read-checked block px);
+            checked = subst (PixelsChecked px (BlockChecked block (ReadableChecked block NotDeclined))) (sym (measure-number block px)) (read-checked block px);
             left = λ ne. ap (λ (a : Measured). a .error) (measure-declined block px (λ e. ne (measure-number block px ∙ e)));
           };
       keeps = take-keeps;

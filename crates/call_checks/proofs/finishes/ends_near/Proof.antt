@@ -7,10 +7,10 @@ use Rattle.call_checks.proofs.finishes.ends_near.Statement.{statement}
 use Rattle.call_checks.proofs.finishes.ends_near.Tie as tie
 
 abbrev Inv-loop : tie.InvT-loop
-Inv-loop mode bytes ends₀ k₀ ends k = (k ≤ 4) × (length ends ≡ 4)
+Inv-loop kind mode bytes ends₀ k₀ ends k = (k ≤ 4) × (length ends ≡ 4)
 
 abbrev μ-loop : tie.MeasureT-loop
-μ-loop mode bytes ends₀ k₀ ends k = 4 - k
+μ-loop kind mode bytes ends₀ k₀ ends k = 4 - k
 
 level-requires : tie.Need-level-requires Inv-loop μ-loop
 level-requires c κs = search needs

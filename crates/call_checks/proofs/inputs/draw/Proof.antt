@@ -8,10 +8,10 @@ use Rattle.call_checks.proofs.inputs.draw.Statement.{statement}
 use Rattle.call_checks.proofs.inputs.draw.Tie as tie
 
 abbrev Inv-loop : tie.InvT-loop
-Inv-loop seed part₀ s₀ i₀ part s i = (i ≤ length part) × (length part ≡ length part₀)
+Inv-loop seed kind part₀ s₀ i₀ part s i = (i ≤ length part) × (length part ≡ length part₀)
 
 abbrev μ-loop : tie.MeasureT-loop
-μ-loop seed part₀ s₀ i₀ part s i = length part₀ - i
+μ-loop seed kind part₀ s₀ i₀ part s i = length part₀ - i
 
 loop-holds : tie.Need-loop-holds Inv-loop μ-loop
 loop-holds c = search needs
@@ -19,8 +19,11 @@ loop-holds c = search needs
 next-requires : tie.Need-next-requires Inv-loop μ-loop
 next-requires c κs = search needs
 
-cast-part : tie.Need-cast-part Inv-loop μ-loop
-cast-part c = search needs
+cast-of-kind : tie.Need-cast-of-kind Inv-loop μ-loop
+cast-of-kind c = search needs
+
+of-kind-requires : tie.Need-of-kind-requires Inv-loop μ-loop
+of-kind-requires c κs = search needs
 
 slice-write-part : tie.Need-slice-write-part Inv-loop μ-loop
 slice-write-part c = search needs
@@ -48,7 +51,8 @@ draw-spec =
     μ-loop
     loop-holds
     next-requires
-    cast-part
+    cast-of-kind
+    of-kind-requires
     slice-write-part
     add-i
     loop-less
