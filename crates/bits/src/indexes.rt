@@ -1,9 +1,11 @@
 // Sixteen indexes as one number: what the Rust's IndexList does.
 ghost use mathlib.Core.Path.{_≡_};
-ghost use Prim.Native.Nat.{ℕ, _+_, _-_, _*_, _^_, _<_, _≤_};
+ghost use Prim.Native.Nat.{ℕ, _+_, _-_, _*_, _/_, _^_, _<_, _≤_};
+ghost use lib.Bits.{bitAnd, bitOr};
 ghost use lib.Dec.{eqb};
-ghost use lib.ListN.{getD, length};
+ghost use lib.ListN.{getD, length, replicate};
 ghost use Rattle.bptc.specs.Tests.{pick};
+ghost use Rattle.bptc_block.specs.Bits.{split};
 ghost use Rattle.bptc_block.specs.Rust.IndexList.{index-list};
 ghost use Rattle.bptc_block.specs.Rust.CompressedIndexList.{ensure-msb-zero, compress-single-index, bits-repeat2-u16, bits-repeat3-u16, compress-p2};
 
@@ -36,6 +38,27 @@ pub(crate) fn index_list(bits: u32, indices: &[u8; 16]) -> u64
         i += 1;
     }
     indexes
+}
+
+// Fields in pairs, the upper one of each moved down.
+fn closed_up(n: u64, low: u64, high: u64, by: u32) -> u64
+    requires { ⌜ by < 64 ⌝ }
+    ensures { λ r. ⌜ r ≡ bitOr (bitAnd n low) (bitAnd n high / 2 ^ by) ⌝ }
+{
+    (n & low) | ((n & high) >> by)
+}
+
+// The indexes as one number, from sixteen of four bits each. Requires that each has no more than `bits` bits.
+pub fn narrowed(bits: u32, indices: u64) -> u64
+    requires few { ⌜ bits ≤ 3 ⌝ }
+    requires small { ⌜ ((i : ℕ) → getD (split (replicate 16 4) indices) i 0 < 2 ^ bits) ⌝ }
+    ensures { λ r. ⌜ r ≡ index-list bits (split (replicate 16 4) indices) ⌝ }
+{
+    let by = 4 - bits;
+    let two = closed_up(indices, 0x0F0F_0F0F_0F0F_0F0F, 0xF0F0_F0F0_F0F0_F0F0, by);
+    let four = closed_up(two, 0x00FF_00FF_00FF_00FF, 0xFF00_FF00_FF00_FF00, 2 * by);
+    let eight = closed_up(four, 0x0000_FFFF_0000_FFFF, 0xFFFF_0000_FFFF_0000, 4 * by);
+    closed_up(eight, 0x0000_0000_FFFF_FFFF, 0xFFFF_FFFF_0000_0000, 8 * by)
 }
 
 // Each of sixteen bits twice.

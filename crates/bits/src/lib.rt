@@ -1,8 +1,9 @@
 // The 128 bits of a block in modes 1 and 3: fields written and read by bit place.
 pub use bptc::Rgb;
 pub use bptc_block::Fields;
+pub use bptc_block::Words;
 
-mod indexes;
+pub mod indexes;
 pub mod reading;
 mod stream;
 pub mod writing;

@@ -1,14 +1,17 @@
 // Fields as the bits of a block: what the Rust's Compressed::mode1 and mode3 do.
 ghost use mathlib.Core.Path.{_≡_};
-ghost use Prim.Native.Nat.{_+_, _*_, _/_, _%_, _<_};
-ghost use lib.ListN.{length};
+ghost use Prim.Native.Nat.{ℕ, _+_, _*_, _/_, _%_, _^_, _<_};
+ghost use mathlib.Core.List.{map};
+ghost use lib.ListN.{getD, length};
 ghost use Rattle.bptc.specs.Tests.{pick};
 ghost use Rattle.bptc.specs.Mode.{mode1, mode3, modeNumbered};
 ghost use Rattle.bptc.specs.Partition.{maskOf, anchorOf};
+ghost use Rattle.bptc.specs.Pixels.{pixelWord, pixelOf};
 ghost use Rattle.bptc_block.specs.Bits.{halves};
 ghost use Rattle.bptc_block.specs.Bytes.{bytes};
-ghost use Rattle.bptc_block.specs.Fields.{Plain};
+ghost use Rattle.bptc_block.specs.Fields.{Plain, wordFields};
 ghost use Rattle.bptc_block.specs.Packed.{packed};
+ghost use Rattle.bptc_block.specs.Rust.IndexList.{index-list};
 ghost use Rattle.bptc_block.specs.Exchange.{swappedEnds, turnedBits, compressed};
 use crate::indexes::compress_p2;
 use crate::indexes::index_list;
@@ -17,21 +20,31 @@ use crate::stream::write_bytes;
 use crate::stream::write_fields;
 use bptc::Rgb;
 use bptc_block::Fields;
+use bptc_block::Words;
 use palette::Mode1;
 use palette::Mode3;
+use palette::colour::wide;
+use palette::pixels::pixel;
 use palette::table::anchor;
 use palette::table::mask;
 
-// The first of two colours, or the second where they are swapped.
-fn turned(swap: bool, a: Rgb, b: Rgb) -> Rgb
-    ensures { λ r. ⌜ r ≡ pick swap b a ⌝ }
+// A colour as one number, red lowest.
+fn word(c: Rgb) -> u32
+    ensures { λ r. ⌜ r ≡ pixelWord c ⌝ }
 {
-    if swap { b } else { a }
+    wide(c.r) + wide(c.g) * 256 + wide(c.b) * 65536
+}
+
+// The first of two colours, or the second where they are swapped.
+fn turned(swap: bool, a: u32, b: u32) -> Rgb
+    ensures { λ r. ⌜ r ≡ pick swap (pixelOf b) (pixelOf a) ⌝ }
+{
+    if swap { pixel(b) } else { pixel(a) }
 }
 
 // The endpoints, those of a subset exchanged where it is swapped.
-fn swapped(ends: [Rgb; 4], swap0: bool, swap1: bool) -> [Rgb; 4]
-    ensures { λ r. ⌜ r ≡ swappedEnds ends swap0 swap1 ⌝ }
+fn swapped(ends: [u32; 4], swap0: bool, swap1: bool) -> [Rgb; 4]
+    ensures { λ r. ⌜ r ≡ swappedEnds (map pixelOf ends) swap0 swap1 ⌝ }
 {
     let e0 = ends[0];
     let e1 = ends[1];
@@ -53,57 +66,47 @@ fn turned_bits(swap: bool, p: u8) -> u8
     if swap { (p % 2) * 2 + p / 2 } else { p }
 }
 
-// A block of mode 1. Requires fields in range, and the mask and the anchor of their partition.
-fn mode1(f: Fields, mask: u16, anchor: u32) -> BitStream
-    requires plain { ⌜ Plain mode1 f ⌝ }
-    requires table { ⌜ mask ≡ maskOf (f .partition) ⌝ }
-    requires place { ⌜ anchor ≡ anchorOf (f .partition) ⌝ }
-    ensures { λ r. ⌜ bytes 16 (halves (r .low) (r .high)) ≡ packed mode1 (compressed mode1 f) ⌝ }
+// A block of mode 1. Requires words whose fields are in range, and the mask and the anchor of their partition.
+fn mode1(w: Words, mask: u16, anchor: u32) -> BitStream
+    requires plain { ⌜ Plain mode1 (wordFields 3 w) ⌝ }
+    requires list { ⌜ w .indexes < 2 ^ 48 ⌝ }
+    requires table { ⌜ mask ≡ maskOf (w .partition) ⌝ }
+    requires place { ⌜ anchor ≡ anchorOf (w .partition) ⌝ }
+    ensures { λ r. ⌜ bytes 16 (halves (r .low) (r .high)) ≡ packed mode1 (compressed mode1 (wordFields 3 w)) ⌝ }
 {
-    let stored = f.ends;
-    let indices = f.indices;
-    let c = compress_p2(
-        Mode1::INDEX_BITS,
-        index_list(Mode1::INDEX_BITS, &indices),
-        mask,
-        anchor,
-    );
+    let stored = w.ends;
+    let c = compress_p2(Mode1::INDEX_BITS, w.indexes, mask, anchor);
     let ends = swapped(stored, c.swap0, c.swap1);
     write_fields(
         1,
         Mode1::CHANNEL_BITS,
         Mode1::P_BITS,
         Mode1::INDEX_BITS,
-        f.partition,
+        w.partition,
         ends,
-        f.p,
+        w.p,
         c.indexes,
     )
 }
 
 // A block of mode 3, whose p-bits go with their endpoints. Requires the same.
-fn mode3(f: Fields, mask: u16, anchor: u32) -> BitStream
-    requires plain { ⌜ Plain mode3 f ⌝ }
-    requires table { ⌜ mask ≡ maskOf (f .partition) ⌝ }
-    requires place { ⌜ anchor ≡ anchorOf (f .partition) ⌝ }
-    ensures { λ r. ⌜ bytes 16 (halves (r .low) (r .high)) ≡ packed mode3 (compressed mode3 f) ⌝ }
+fn mode3(w: Words, mask: u16, anchor: u32) -> BitStream
+    requires plain { ⌜ Plain mode3 (wordFields 2 w) ⌝ }
+    requires list { ⌜ w .indexes < 2 ^ 32 ⌝ }
+    requires table { ⌜ mask ≡ maskOf (w .partition) ⌝ }
+    requires place { ⌜ anchor ≡ anchorOf (w .partition) ⌝ }
+    ensures { λ r. ⌜ bytes 16 (halves (r .low) (r .high)) ≡ packed mode3 (compressed mode3 (wordFields 2 w)) ⌝ }
 {
-    let stored = f.ends;
-    let indices = f.indices;
-    let c = compress_p2(
-        Mode3::INDEX_BITS,
-        index_list(Mode3::INDEX_BITS, &indices),
-        mask,
-        anchor,
-    );
+    let stored = w.ends;
+    let c = compress_p2(Mode3::INDEX_BITS, w.indexes, mask, anchor);
     let ends = swapped(stored, c.swap0, c.swap1);
-    let p = turned_bits(c.swap0, f.p % 4) + turned_bits(c.swap1, f.p / 4 % 4) * 4;
+    let p = turned_bits(c.swap0, w.p % 4) + turned_bits(c.swap1, w.p / 4 % 4) * 4;
     write_fields(
         3,
         Mode3::CHANNEL_BITS,
         Mode3::P_BITS,
         Mode3::INDEX_BITS,
-        f.partition,
+        w.partition,
         ends,
         p,
         c.indexes,
@@ -111,25 +114,57 @@ fn mode3(f: Fields, mask: u16, anchor: u32) -> BitStream
 }
 
 // A block of mode 1 or 3. Requires the same.
-fn block_bits(mode: u8, f: Fields, mask: u16, anchor: u32) -> BitStream
-    requires plain { ⌜ Plain (modeNumbered mode) f ⌝ }
-    requires table { ⌜ mask ≡ maskOf (f .partition) ⌝ }
-    requires place { ⌜ anchor ≡ anchorOf (f .partition) ⌝ }
-    ensures { λ r. ⌜ bytes 16 (halves (r .low) (r .high)) ≡ packed (modeNumbered mode) (compressed (modeNumbered mode) f) ⌝ }
+fn block_bits(mode: u8, w: Words, mask: u16, anchor: u32) -> BitStream
+    requires plain { ⌜ Plain (modeNumbered mode) (wordFields (modeNumbered mode .indexBits) w) ⌝ }
+    requires list { ⌜ w .indexes < 2 ^ (16 * modeNumbered mode .indexBits) ⌝ }
+    requires table { ⌜ mask ≡ maskOf (w .partition) ⌝ }
+    requires place { ⌜ anchor ≡ anchorOf (w .partition) ⌝ }
+    ensures { λ r. ⌜ bytes 16 (halves (r .low) (r .high)) ≡ packed (modeNumbered mode) (compressed (modeNumbered mode) (wordFields (modeNumbered mode .indexBits) w)) ⌝ }
 {
     match mode {
-        1 => mode1(f, mask, anchor),
-        _ => mode3(f, mask, anchor),
+        1 => mode1(w, mask, anchor),
+        _ => mode3(w, mask, anchor),
     }
 }
 
-// The block of fields into a lent part: the writer of every call that makes a block. Requires fields in range and 16 bytes.
+// The block of words into a lent part: the writer of every call that makes a block. Requires fields in range and 16 bytes.
+pub fn write_words(mode: u8, w: Words, block: &mut [u8])
+    requires plain { ⌜ Plain (modeNumbered mode) (wordFields (modeNumbered mode .indexBits) w) ⌝ }
+    requires list { ⌜ w .indexes < 2 ^ (16 * modeNumbered mode .indexBits) ⌝ }
+    requires sixteen { ⌜ length (now block) ≡ 16 ⌝ }
+    ensures { λ _. ⌜ now (block .exit) ≡ packed (modeNumbered mode) (compressed (modeNumbered mode) (wordFields (modeNumbered mode .indexBits) w)) ⌝ }
+{
+    let partition = w.partition as usize;
+    let stream = block_bits(mode, w, mask(partition), anchor(partition) as u32);
+    write_bytes(stream.low, stream.high, block);
+}
+
+// The sixteen indices as one number, by the mode. Requires indices in range.
+fn listed(mode: u8, indices: &[u8; 16]) -> u64
+    requires sixteen { ⌜ length (now indices) ≡ 16 ⌝ }
+    requires small { ⌜ ((i : ℕ) → getD (now indices) i 0 < 2 ^ modeNumbered mode .indexBits) ⌝ }
+    ensures { λ r. ⌜ r ≡ index-list (modeNumbered mode .indexBits) (now (indices .entry)) ⌝ }
+{
+    match mode {
+        1 => index_list(Mode1::INDEX_BITS, indices),
+        _ => index_list(Mode3::INDEX_BITS, indices),
+    }
+}
+
+// The block of fields into a lent part. Requires fields in range and 16 bytes.
 pub fn write_block(mode: u8, f: Fields, block: &mut [u8])
     requires plain { ⌜ Plain (modeNumbered mode) f ⌝ }
     requires sixteen { ⌜ length (now block) ≡ 16 ⌝ }
     ensures { λ _. ⌜ now (block .exit) ≡ packed (modeNumbered mode) (compressed (modeNumbered mode) f) ⌝ }
 {
-    let partition = f.partition as usize;
-    let stream = block_bits(mode, f, mask(partition), anchor(partition) as u32);
-    write_bytes(stream.low, stream.high, block);
+    let e = f.ends;
+    let indices = f.indices;
+    let ends = [word(e[0]), word(e[1]), word(e[2]), word(e[3])];
+    let w = Words {
+        partition: f.partition,
+        ends,
+        p: f.p,
+        indexes: listed(mode, &indices),
+    };
+    write_words(mode, w, block);
 }

@@ -23,7 +23,7 @@ use Rattle.bptc.proofs.Shading.{palettes-at}
 use Rattle.bptc.proofs.Marked.{at-subset}
 
 -- a pixel's number stands for the pixel
-word-pixel : (c : Rgb) → Below 256 c → pixelOf (pixelWord c) ≡ c
+pub word-pixel : (c : Rgb) → Below 256 c → pixelOf (pixelWord c) ≡ c
 unfolding pixelOf pixelWord
 word-pixel c h = rgb-eq (omega (arith, h)) (omega (arith, h)) (omega (arith, h))
 

@@ -1,6 +1,7 @@
 pub mod Bits
 pub mod Bytes
 pub mod Halves
+pub mod Pairs
 pub mod Widths
 pub mod Packed
 pub mod Places
@@ -9,6 +10,7 @@ pub mod Trials
 pub mod Modes
 pub mod Flipping
 pub mod Exchanging
+pub mod WordFields
 pub mod Refusals
 pub mod Checks
 pub mod Readable

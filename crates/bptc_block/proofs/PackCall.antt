@@ -42,11 +42,15 @@ module _ (mode : ℕ) (f : Fields) (part : List ℕ) where
     unfolding packOf
     checks = passed (eqb (length part) 16) 1 _ ok .1
 
+    -- what such a candidate is
+    pub pack-good : Good (fixedAt mode f)
+    pack-good = good (fixedAt mode f) _ checks .0
+
     -- what it accepts is in range
     pub pack-plain : length (f .ends) ≡ 4 → length (f .indices) ≡ 16 → Plain (modeNumbered mode) f
     pack-plain four sixteen =
         let top : ℕ = largest (modeNumbered mode) in
-        let g : Good (fixedAt mode f) = good (fixedAt mode f) _ checks .0 in
+        let g : Good (fixedAt mode f) = pack-good in
         let small : all (λ (i : ℕ). leb i top) (f .indices) ≡ true = passed (all (λ (i : ℕ). leb i top) (f .indices)) 6 0 (good (fixedAt mode f) _ checks .1) .0 in
         record {
           partition = g .partition;

@@ -10,8 +10,10 @@ use Rattle.bptc.specs.Rows.{upFrom}
 use Rattle.bptc.specs.Mode.{Mode, largest}
 use Rattle.bptc.specs.Partition.{anchorOf}
 use Rattle.bptc.specs.Colour.{black, Below}
+use Rattle.bptc.specs.Pixels.{pixelOf}
 use Rattle.bptc_block.specs.declared.Fields.{Fields}
-use Rattle.bptc_block.specs.Bits.{fieldAt}
+use Rattle.bptc_block.specs.declared.Words.{Words}
+use Rattle.bptc_block.specs.Bits.{fieldAt, split}
 
 -- an index has a bit less at pixel 0 and at the anchor of subset 1
 abbrev pub indexWidthBy : ℕ → ℕ → ℕ → ℕ
@@ -20,6 +22,11 @@ indexWidthBy bits anchor i = pick (eqb i 0) (bits - 1) (pick (eqb i anchor) (bit
 -- in a mode
 unfoldable pub indexWidth : Mode → ℕ → ℕ → ℕ
 indexWidth m part i = indexWidthBy (m .indexBits) (anchorOf part) i
+
+-- the fields that words stand for, by the bits of an index
+abbrev pub wordFields : ℕ → Words → Fields
+wordFields bits w =
+    record { partition = w .partition; ends = map pixelOf (w .ends); p = w .p; indices = split (replicate 16 bits) (w .indexes) }
 
 -- fields in range: every channel and the p-bits below a limit, and the index of pixel i below a limit of its own
 pub record Within (channel bits : ℕ) (index : ℕ → ℕ) (f : Fields) : Type 0 where

@@ -11,6 +11,14 @@ pub struct Fields {
     pub indices: [u8; 16],
 }
 
+// The same fields in fewer numbers: an endpoint is one, red lowest, and so are the sixteen indices.
+pub struct Words {
+    pub partition: u8,
+    pub ends: [u32; 4],
+    pub p: u8,
+    pub indexes: u64,
+}
+
 // The p-bits of a candidate: left to the finisher, or one number.
 pub enum PBits {
     Free,

@@ -42,7 +42,7 @@ pub struct Took {
 }
 
 // Copies bytes into a part of the same length.
-fn copy(bytes: &[u8], part: &mut [u8])
+pub fn copy(bytes: &[u8], part: &mut [u8])
     requires { ⌜ length (now part) ≡ length (now bytes) ⌝ }
     ensures { λ _. ⌜ now (part .exit) ≡ now (bytes .entry) ⌝ }
 {

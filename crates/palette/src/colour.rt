@@ -10,7 +10,7 @@ use bptc::Rgb;
 pub const GREATEST: u32 = 3 * 255 * 255;
 
 // A byte as a number that may be subtracted and squared.
-pub(crate) fn wide(x: u8) -> u32
+pub fn wide(x: u8) -> u32
     ensures { λ r. ⌜ (r ≡ x) × (r < 256) ⌝ }
 {
     x as u32

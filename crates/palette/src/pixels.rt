@@ -82,7 +82,7 @@ pub fn members(mask: u16, subset: u8) -> [u32; 16]
 }
 
 // The pixel that a number stands for.
-pub(crate) fn pixel(x: u32) -> Rgb
+pub fn pixel(x: u32) -> Rgb
     ensures { λ r. ⌜ r ≡ pixelOf x ⌝ }
 {
     Rgb {

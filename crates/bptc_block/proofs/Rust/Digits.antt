@@ -1,18 +1,18 @@
 -- An IndexList is the number of its indexes, each a digit of I bits: what `get` and `set` do to them.
 use Prim.Native.Nat.{ℕ, zero, suc, _+_, _*_, _/_, _%_, _^_, _≤_, _<_}
-use native.Mathlib.Nat.{add-comm, zero-mul, one-mul, suc-mul, div-one, zero-div, zero-mod, mul-le-mul-right, le-pred-of-lt}
+use native.Mathlib.Nat.{add-comm, zero-mul, one-mul, suc-mul, div-one, zero-div, zero-mod, mul-le-mul-right, le-pred-of-lt, lt-of-lt-of-le}
 use native.Mathlib.Numerals.{add-one}
 use native.Mathlib.Omega.{arith}
-use mathlib.Core.Path.{_≡_, sym, ap, _∙_}
+use mathlib.Core.Path.{_≡_, sym, ap, subst, _∙_}
 use mathlib.Core.List.{List, [], _∷_, _++_, append-nil, append-assoc}
 use lib.Bits.{and-mask, or-shifted-r}
-use lib.Pow.{pow-pos, shl-exact, shr-shr, high, low}
+use lib.Pow.{pow-pos, pow-mono, shl-exact, shr-shr, high, low}
 use lib.Seq.{take-suc, length-take-le}
 use lib.ListN.{length, getD, take, replicate, length-append, length-replicate, replicate-append-replicate}
 use Rattle.bptc.specs.Rust.Words.{loop, enumerate}
-use Rattle.bptc_block.specs.Bits.{join}
+use Rattle.bptc_block.specs.Bits.{split, join}
 use Rattle.bptc_block.specs.Rust.IndexList.{get, put, index-list}
-use Rattle.bptc_block.proofs.Bits.{fits-same, join-lt, join-snoc, sum-replicate}
+use Rattle.bptc_block.proofs.Bits.{fits-same, fits-split, fits-length, fits-at, split-join, join-split, join-lt, join-snoc, sum-replicate}
 
 -- the number of digits, the lowest first: fields of one width
 unfoldable pub digits : ℕ → List ℕ → ℕ
@@ -62,6 +62,25 @@ digit-at I [] i h = rw (zero-div, zero-mod)
 digit-at I (x ∷ xs) zero h = rw (zero-mul, div-one) (low (digits I xs) I (h 0))
 digit-at I (x ∷ xs) (suc i) h = rw (suc-mul, add-comm (i * I) I, ← shr-shr, high (digits I xs) I (h 0)) (digit-at I xs i (λ i. h (suc i)))
 
+-- the digits of a number
+pub split-length : (k I n : ℕ) → length (split (replicate k I) n) ≡ k
+split-length k I n = fits-length (fits-split (replicate k I) n) ∙ length-replicate k I
+
+replicate-le : (k I i : ℕ) → getD (replicate k I) i 0 ≤ I
+replicate-le zero I i = omega arith
+replicate-le (suc k) I zero = omega arith
+replicate-le (suc k) I (suc i) = replicate-le k I i
+
+-- have I bits
+pub split-small : (k I n : ℕ) → Small I (split (replicate k I) n)
+split-small k I n i = lt-of-lt-of-le (fits-at (fits-split (replicate k I) n) i) (pow-mono (replicate-le k I i))
+
+-- and make the number again
+pub split-digits : (k I n : ℕ) → n < 2 ^ (k * I) → digits I (split (replicate k I) n) ≡ n
+unfolding digits
+split-digits k I n h =
+    subst (λ (l : ℕ). join (replicate l I) (split (replicate k I) n) ≡ n) (sym (split-length k I n)) (join-split (replicate k I) n (rw sum-replicate h))
+
 module _ (I : ℕ) (narrow : I ≤ 3) where
   -- sixteen of them have room
   pub room : (l : ℕ) → l < 16 → I + l * I ≤ 64
@@ -97,3 +116,18 @@ module _ (I : ℕ) (narrow : I ≤ 3) where
   pub list-digits : (xs : List ℕ) → length xs ≡ 16 → Small I xs → index-list I xs ≡ digits I xs
   unfolding index-list digits join
   list-digits xs l h = listed-on xs [] (omega arith) (λ i. pow-pos I) h
+
+  -- they are read again from it
+  pub list-split : (xs : List ℕ) → length xs ≡ 16 → Small I xs → split (replicate 16 I) (index-list I xs) ≡ xs
+  unfolding digits
+  list-split xs l h =
+      ap (split (replicate 16 I)) (list-digits xs l h)
+      ∙ subst (λ (k : ℕ). split (replicate k I) (digits I xs) ≡ xs) l (split-join (fits-same I xs (λ i k. h i)))
+
+  -- a number of sixteen indexes is the list of them
+  pub split-list : (n : ℕ) → n < 2 ^ (16 * I) → index-list I (split (replicate 16 I) n) ≡ n
+  split-list n h = list-digits (split (replicate 16 I) n) (split-length 16 I n) (split-small 16 I n) ∙ split-digits 16 I n h
+
+  -- which has no more bits than they
+  pub list-lt : (xs : List ℕ) → length xs ≡ 16 → Small I xs → index-list I xs < 2 ^ (16 * I)
+  list-lt xs l h = rw (list-digits xs l h) (subst (λ (k : ℕ). digits I xs < 2 ^ (k * I)) l (digits-small I xs h))

@@ -1,36 +1,33 @@
 -- `bits::writing::mode1` meets its contract.
-use borrow.Author.Needs.{needs}
 use native.Mathlib.Omega.{arith}
+use mathlib.Core.Path.{sym}
+use borrow.Author.Needs.{needs}
 use Rattle.bptc.specs.Mode.{mode1}
 use Rattle.bptc.proofs.PartitionRule.{placed}
+use Rattle.bptc_block.specs.Fields.{wordFields}
 use Rattle.bptc_block.proofs.Modes.{lawful}
+use Rattle.bptc_block.proofs.Rust.Digits.{split-list}
 use Rattle.bptc_block.proofs.Rust.Masks.{masks1}
-use Rattle.bptc_block.proofs.Rust.Compressing.{plain-small}
 use Rattle.bptc_block.proofs.Rust.Writing.{bits-stay, Ready, ready}
 use Rattle.bits.proofs.writing.mode1.Statement.{statement}
 use Rattle.bits.proofs.writing.mode1.Tie as tie
 
 -- what is written: the compressed fields
 module _ (c : tie.After-swapped) where
-  made : Ready mode1 (c .before .before .before .before .before .before .args .f) (c .swapped .result) (c .before .before .before .before .before .before .args .f .p) (c .before .compress-p2 .result .indexes)
+  made : Ready mode1 (wordFields 3 (c .before .before .before .args .w)) (c .swapped .result) (c .before .before .before .args .w .p) (c .before .compress-p2 .result .indexes)
   made =
-      let p2 = c .before in
-      let s = p2 .before .before .before .before .before in
-      let f = s .args .f in
-      let r = p2 .compress-p2 in
+      let s = c .before .before .before in
+      let f = wordFields 3 (s .args .w) in
+      let r = c .before .compress-p2 in
+      let list = sym (split-list 3 (omega arith) (s .args .w .indexes) (s .pre .1 .0)) in
       rw (c .swapped .ensures)
-      (ready mode1 (lawful 1) masks1 f (s .pre .0) (p2 .before .index-list .result) (s .args .mask) (s .args .anchor) (p2 .before .index-list .ensures) (s .pre .1 .0) (s .pre .1 .1)
-      (r .result .swap0) (r .result .swap1) (r .result .indexes) (c .before .before .before .before .before .before .args .f .p) (r .ensures .0) (r .ensures .1 .0) (r .ensures .1 .1) (bits-stay f (r .result .swap0) (r .result .swap1)))
-
-index-list-requires : tie.Need-index-list-requires
-index-list-requires c κs =
-    let s = c .before .before .before in
-    (omega arith, (s .pre .0 .sixteen, plain-small mode1 (s .args .f) (s .pre .0)))
+      (ready mode1 (lawful 1) masks1 f (s .pre .0) (s .args .w .indexes) (s .args .mask) (s .args .anchor) list (s .pre .1 .1 .0) (s .pre .1 .1 .1)
+      (r .result .swap0) (r .result .swap1) (r .result .indexes) (s .args .w .p) (r .ensures .0) (r .ensures .1 .0) (r .ensures .1 .1) (bits-stay f (r .result .swap0) (r .result .swap1)))
 
 compress-p2-requires : tie.Need-compress-p2-requires
 compress-p2-requires c κs =
-    let s = c .before .before .before .before in
-    (omega arith, (omega arith, rw (s .pre .1 .1) (placed (s .args .f .partition) (s .pre .0 .partition) .inside)))
+    let s = c .before in
+    (omega arith, (omega arith, rw (s .pre .1 .1 .1) (placed (s .args .w .partition) (s .pre .0 .partition) .inside)))
 
 swapped-requires : tie.Need-swapped-requires
 swapped-requires c κs = search needs
@@ -38,18 +35,11 @@ swapped-requires c κs = search needs
 write-fields-requires : tie.Need-write-fields-requires
 write-fields-requires c κs =
     let r = made c in
-    let s = c .before .before .before .before .before .before in
+    let s = c .before .before .before in
     (omega arith, (omega arith, (omega arith, (omega arith, (omega arith, (omega arith, (s .pre .0 .partition, (r .four, (r .channels, (r .own, r .rest))))))))))
 
 returns : tie.Need-returns
 returns c = made (c .before) .block _ (c .write-fields .ensures)
 
 pub mode1-spec : {M : Type 1} → statement M
-mode1-spec =
-    tie.close
-    (tie.spec
-    index-list-requires
-    compress-p2-requires
-    swapped-requires
-    write-fields-requires
-    returns)
+mode1-spec = tie.close (tie.spec compress-p2-requires swapped-requires write-fields-requires returns)

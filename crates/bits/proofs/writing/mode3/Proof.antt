@@ -1,37 +1,35 @@
 -- `bits::writing::mode3` meets its contract.
-use borrow.Author.Needs.{needs}
+use Prim.Native.Nat.{_+_, _*_}
 use native.Mathlib.Omega.{arith}
+use mathlib.Core.Path.{sym}
+use borrow.Author.Needs.{needs}
 use Rattle.bptc.specs.Mode.{mode3}
 use Rattle.bptc.proofs.PartitionRule.{placed}
+use Rattle.bptc_block.specs.Fields.{wordFields}
 use Rattle.bptc_block.proofs.Modes.{lawful}
+use Rattle.bptc_block.proofs.Rust.Digits.{split-list}
 use Rattle.bptc_block.proofs.Rust.Masks.{masks3}
-use Rattle.bptc_block.proofs.Rust.Compressing.{plain-small}
 use Rattle.bptc_block.proofs.Rust.Writing.{bits-turned, Ready, ready}
-use Prim.Native.Nat.{_+_, _*_}
 use Rattle.bits.proofs.writing.mode3.Statement.{statement}
 use Rattle.bits.proofs.writing.mode3.Tie as tie
 
 -- what is written: the compressed fields
 module _ (c : tie.After-turned-bits2) where
-  made : Ready mode3 (c .before .before .before .before .before .before .before .before .before .before .args .f) (c .before .before .before .before .swapped .result) (c .before .before .turned-bits .result + c .turned-bits2 .result * 4) (c .before .before .before .before .before .compress-p2 .result .indexes)
+  made : Ready mode3 (wordFields 2 (c .before .before .before .before .before .before .before .args .w)) (c .before .before .before .before .swapped .result) (c .before .before .turned-bits .result + c .turned-bits2 .result * 4) (c .before .before .before .before .before .compress-p2 .result .indexes)
   made =
       let p2 = c .before .before .before .before .before in
-      let s = p2 .before .before .before .before .before in
-      let f = s .args .f in
+      let s = p2 .before .before in
+      let f = wordFields 2 (s .args .w) in
       let r = p2 .compress-p2 in
+      let list = sym (split-list 2 (omega arith) (s .args .w .indexes) (s .pre .1 .0)) in
       rw (c .before .before .before .before .swapped .ensures)
-      (ready mode3 (lawful 3) masks3 f (s .pre .0) (p2 .before .index-list .result) (s .args .mask) (s .args .anchor) (p2 .before .index-list .ensures) (s .pre .1 .0) (s .pre .1 .1)
+      (ready mode3 (lawful 3) masks3 f (s .pre .0) (s .args .w .indexes) (s .args .mask) (s .args .anchor) list (s .pre .1 .1 .0) (s .pre .1 .1 .1)
       (r .result .swap0) (r .result .swap1) (r .result .indexes) (c .before .before .turned-bits .result + c .turned-bits2 .result * 4) (r .ensures .0) (r .ensures .1 .0) (r .ensures .1 .1) (rw (c .before .before .turned-bits .ensures .0, c .turned-bits2 .ensures .0) (bits-turned f (r .result .swap0) (r .result .swap1) (s .pre .0 .p))))
-
-index-list-requires : tie.Need-index-list-requires
-index-list-requires c κs =
-    let s = c .before .before .before in
-    (omega arith, (s .pre .0 .sixteen, plain-small mode3 (s .args .f) (s .pre .0)))
 
 compress-p2-requires : tie.Need-compress-p2-requires
 compress-p2-requires c κs =
-    let s = c .before .before .before .before in
-    (omega arith, (omega arith, rw (s .pre .1 .1) (placed (s .args .f .partition) (s .pre .0 .partition) .inside)))
+    let s = c .before in
+    (omega arith, (omega arith, rw (s .pre .1 .1 .1) (placed (s .args .w .partition) (s .pre .0 .partition) .inside)))
 
 swapped-requires : tie.Need-swapped-requires
 swapped-requires c κs = search needs
@@ -51,7 +49,7 @@ add-p c = search needs
 write-fields-requires : tie.Need-write-fields-requires
 write-fields-requires c κs =
     let r = made c in
-    let s = c .before .before .before .before .before .before .before .before .before .before in
+    let s = c .before .before .before .before .before .before .before in
     (omega arith, (omega arith, (omega arith, (omega arith, (omega arith, (omega arith, (s .pre .0 .partition, (r .four, (r .channels, (r .own, r .rest))))))))))
 
 returns : tie.Need-returns
@@ -61,7 +59,6 @@ pub mode3-spec : {M : Type 1} → statement M
 mode3-spec =
     tie.close
     (tie.spec
-    index-list-requires
     compress-p2-requires
     swapped-requires
     turned-bits-requires

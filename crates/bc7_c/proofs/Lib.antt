@@ -1,0 +1,4 @@
+pub mod Capped
+pub mod Masked
+pub mod Accepted
+pub mod PartBytes

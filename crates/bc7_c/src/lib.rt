@@ -1,0 +1,170 @@
+// The seven calls for C, on numbers and byte parts; include/bc7.h has their prototypes.
+ghost use mathlib.Core.Path.{_≡_};
+ghost use Rattle.bptc_block.specs.PackCall.{packOf, packInto};
+ghost use Rattle.bptc_block.specs.FinishCall.{finishInto};
+ghost use Rattle.bc7_c.specs.Numbers.{candidateOf, packedOf};
+ghost use Rattle.bc7_c.specs.Calls.{finishAnswer, measureAnswer, startAnswer, startPart, offerAnswer, offerPart, takeAnswer, takeBlock, readAnswer, readPixels, readFields};
+use crate::numbers::answer;
+use crate::numbers::candidate;
+use crate::packing::pack_refusal;
+use crate::parts::chooser_in;
+use crate::parts::write_chooser;
+use crate::parts::write_fields;
+use bits::Words;
+use bits::indexes::narrowed;
+use bits::writing::write_words;
+use block::finish;
+use block::measure;
+use block::read;
+use chooser::Chooser;
+use palette::Mode1;
+use palette::Mode3;
+
+mod numbers;
+mod packing;
+mod parts;
+
+// `pack`.
+#[no_mangle]
+pub extern "C" fn bc7_pack(
+    mode: u32,
+    partition: u32,
+    e0: u32,
+    e1: u32,
+    e2: u32,
+    e3: u32,
+    p: u32,
+    indices: u64,
+    block: &mut [u8],
+) -> u32
+    ensures answer { λ r. ⌜ r ≡ packOf mode (packedOf partition e0 e1 e2 e3 p indices) (now (block .entry)) ⌝ }
+    ensures part { λ _. ⌜ now (block .exit) ≡ packInto mode (packedOf partition e0 e1 e2 e3 p indices) (now (block .entry)) ⌝ }
+{
+    if block.len() != 16 {
+        return 2;
+    }
+    let declined = pack_refusal(mode, partition, e0, e1, e2, e3, p, indices);
+    if declined != 0 {
+        return declined;
+    }
+    let indexes = match mode {
+        1 => narrowed(Mode1::INDEX_BITS, indices),
+        _ => narrowed(Mode3::INDEX_BITS, indices),
+    };
+    let w = Words {
+        partition: partition as u8,
+        ends: [e0, e1, e2, e3],
+        p: p as u8,
+        indexes,
+    };
+    write_words(mode as u8, w, block);
+    0
+}
+
+// `finish`.
+#[no_mangle]
+pub extern "C" fn bc7_finish(
+    pixels: &[u8],
+    mode: u32,
+    partition: u32,
+    e0: u32,
+    e1: u32,
+    e2: u32,
+    e3: u32,
+    p: u32,
+    free: u32,
+    block: &mut [u8],
+) -> u64
+    ensures answer { λ r. ⌜ r ≡ finishAnswer (now (pixels .entry)) (candidateOf mode partition e0 e1 e2 e3 p free) (now (block .entry)) ⌝ }
+    ensures part { λ _. ⌜ now (block .exit) ≡ finishInto (now (pixels .entry)) (candidateOf mode partition e0 e1 e2 e3 p free) (now (block .entry)) ⌝ }
+{
+    let finished = finish(
+        pixels,
+        candidate(mode, partition, e0, e1, e2, e3, p, free),
+        block,
+    );
+    answer(finished.refusal, finished.error)
+}
+
+// `start`, the chooser into a part of 68 bytes.
+#[no_mangle]
+pub extern "C" fn bc7_start(pixels: &[u8], chooser: &mut [u8]) -> u32
+    ensures answer { λ r. ⌜ r ≡ startAnswer (now (pixels .entry)) (now (chooser .entry)) ⌝ }
+    ensures part { λ _. ⌜ now (chooser .exit) ≡ startPart (now (pixels .entry)) (now (chooser .entry)) ⌝ }
+{
+    if chooser.len() != 68 {
+        return 255;
+    }
+    let started = Chooser::start(pixels);
+    let held = started.chooser;
+    write_chooser(held, chooser);
+    started.refusal as u32
+}
+
+// `offer`, to the chooser in such a part.
+#[no_mangle]
+pub extern "C" fn bc7_offer(
+    chooser: &mut [u8],
+    mode: u32,
+    partition: u32,
+    e0: u32,
+    e1: u32,
+    e2: u32,
+    e3: u32,
+    p: u32,
+    free: u32,
+) -> u32
+    ensures answer { λ r. ⌜ r ≡ offerAnswer (now (chooser .entry)) (candidateOf mode partition e0 e1 e2 e3 p free) ⌝ }
+    ensures part { λ _. ⌜ now (chooser .exit) ≡ offerPart (now (chooser .entry)) (candidateOf mode partition e0 e1 e2 e3 p free) ⌝ }
+{
+    if chooser.len() != 68 {
+        return 255;
+    }
+    let held = chooser_in(chooser);
+    let offered = held.offer(candidate(mode, partition, e0, e1, e2, e3, p, free));
+    let kept = offered.chooser;
+    write_chooser(kept, chooser);
+    offered.refusal as u32
+}
+
+// `take`, from the chooser in such a part.
+#[no_mangle]
+pub extern "C" fn bc7_take(chooser: &[u8], block: &mut [u8]) -> u64
+    ensures answer { λ r. ⌜ r ≡ takeAnswer (now (chooser .entry)) (now (block .entry)) ⌝ }
+    ensures part { λ _. ⌜ now (block .exit) ≡ takeBlock (now (chooser .entry)) (now (block .entry)) ⌝ }
+{
+    if chooser.len() != 68 {
+        return answer(255, 0);
+    }
+    let held = chooser_in(chooser);
+    let took = held.take(block);
+    answer(took.answer.refusal, took.answer.error)
+}
+
+// `read`, the fields into a part of 31 bytes.
+#[no_mangle]
+pub extern "C" fn bc7_read(block: &[u8], pixels: &mut [u8], fields: &mut [u8]) -> u32
+    ensures answer { λ r. ⌜ r ≡ readAnswer (now (block .entry)) (now (pixels .entry)) (now (fields .entry)) ⌝ }
+    ensures pixels { λ _. ⌜ now (pixels .exit) ≡ readPixels (now (block .entry)) (now (pixels .entry)) (now (fields .entry)) ⌝ }
+    ensures fields { λ _. ⌜ now (fields .exit) ≡ readFields (now (block .entry)) (now (pixels .entry)) (now (fields .entry)) ⌝ }
+{
+    if fields.len() != 31 {
+        return 255;
+    }
+    let reading = read(block, pixels);
+    let refusal = reading.refusal;
+    if refusal != 0 {
+        return refusal as u32;
+    }
+    write_fields(reading, fields);
+    0
+}
+
+// `measure`.
+#[no_mangle]
+pub extern "C" fn bc7_measure(block: &[u8], pixels: &[u8]) -> u64
+    ensures { λ r. ⌜ r ≡ measureAnswer (now (block .entry)) (now (pixels .entry)) ⌝ }
+{
+    let measured = measure(block, pixels);
+    answer(measured.refusal, measured.error)
+}

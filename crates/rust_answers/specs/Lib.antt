@@ -1,0 +1,3 @@
+pub mod Recording
+pub mod Answers
+pub mod Counting
