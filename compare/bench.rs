@@ -6,7 +6,7 @@ mod draw;
 mod ours;
 mod rust;
 
-use candidate::{nibbles, Candidate, Finished, Pixels};
+use candidate::{nibbles, Candidate, Finished, Indices, Pixels};
 use draw::Draw;
 use std::hint::black_box;
 use std::process::{exit, ExitCode};
@@ -31,9 +31,10 @@ struct ToFinish {
     candidate: Candidate,
 }
 
-/// What is handed to packing: the indices as the C interface has them, and the word of the Rust's list.
+/// What is handed to packing: sixteen indices, as the C interface has them, and as the Rust's list.
 struct ToPack {
     candidate: Candidate,
+    indices: Indices,
     nibbles: u64,
     word: u64,
 }
@@ -60,7 +61,7 @@ fn to_finish(draw: &mut Draw, mode: u32, free: u32) -> ToFinish {
 fn to_pack(draw: &mut Draw, mode: u32) -> ToPack {
     let ToFinish { candidate, .. } = to_finish(draw, mode, 0);
     let indices = draw.indices(&candidate);
-    ToPack { candidate, nibbles: nibbles(&indices), word: rust::index_word(&candidate, &indices) }
+    ToPack { candidate, indices, nibbles: nibbles(&indices), word: rust::index_word(&candidate, &indices) }
 }
 
 /// Drawn input for choosing, with candidates of any cell.
@@ -91,8 +92,13 @@ fn pack_ours(input: &ToPack, out: &mut Finished) {
     out.error = ours::pack_into(&input.candidate, input.nibbles, &mut out.block);
 }
 
-/// Packing by the Rust.
+/// Packing by the Rust: its list is made of the sixteen indices.
 fn pack_rust(input: &ToPack, out: &mut Finished) {
+    *out = Finished { block: rust::pack(&input.candidate, &input.indices), error: 0 };
+}
+
+/// Packing by the Rust, with its list ready made.
+fn pack_list(input: &ToPack, out: &mut Finished) {
     *out = Finished { block: rust::pack_word(&input.candidate, input.word), error: 0 };
 }
 
@@ -192,18 +198,23 @@ impl Calls {
         self.not_below += u32::from((ratio * 100.0).round() >= 100.0);
     }
 
-    /// Adds all rows.
+    /// Adds all rows, and a line for packing with the Rust's list ready made.
     fn all(&mut self, draw: &mut Draw) {
         for (mode, free, p) in [(1, 0, "fixed"), (1, 1, "free"), (3, 0, "fixed"), (3, 1, "free")] {
             let inputs: Vec<ToFinish> = (0..CANDIDATES).map(|_| to_finish(draw, mode, free)).collect();
             self.row(&format!("finish mode {mode}, p-bits {p}"), &inputs, finish_ours, finish_rust);
         }
-        for mode in [1, 3] {
-            let inputs: Vec<ToPack> = (0..CANDIDATES).map(|_| to_pack(draw, mode)).collect();
-            self.row(&format!("pack mode {mode}"), &inputs, pack_ours, pack_rust);
+        let packs = [1, 3].map(|mode| (mode, (0..CANDIDATES).map(|_| to_pack(draw, mode)).collect::<Vec<_>>()));
+        for (mode, inputs) in &packs {
+            self.row(&format!("pack mode {mode}"), inputs, pack_ours, pack_rust);
         }
         let inputs: Vec<ToChoose> = (0..CANDIDATES / 16).map(|_| to_choose(draw, 16)).collect();
         self.row("choose over 16 candidates", &inputs, choose_ours, choose_rust);
+        println!();
+        for (mode, inputs) in &packs {
+            let Timed { ours, rust, ratio } = time(self.samples, inputs, pack_ours, pack_list);
+            println!("With the Rust's list of indexes ready made, pack mode {mode}: ours {ours:.1} ns, Rust {rust:.1} ns, {ratio:.2}.");
+        }
     }
 }
 

@@ -1,7 +1,8 @@
 /* BC7 blocks of modes 1 and 3: the calls of libbc7_c.a, which `rt staticlib bc7_c` proves and writes.
 
-   A part is a pointer and its length in bytes; a part that a call writes must not overlap another. Any length and any number is
-   answered: by 0, or by the first of these refusals that applies, and then nothing is written but what bc7_start says.
+   A part is a pointer and its length in bytes, with as many bytes behind it; a part that a call writes must not overlap another, and
+   one of length 0 may be NULL. Any length and any number is answered: by 0, or by the first of these refusals that applies, and then
+   nothing is written but what bc7_start says.
 
      1  the pixel part is not 48 bytes long (red, green, blue of pixels 0 to 15, row by row)
      2  the block part is not 16 bytes long

@@ -2,3 +2,4 @@ pub mod Capped
 pub mod Masked
 pub mod Accepted
 pub mod PartBytes
+pub mod InPart

@@ -1,7 +1,7 @@
 -- Laws of the bytes of a chooser and of fields: written one after the other, and read again.
-use Prim.Native.Nat.{ℕ, _+_, _*_, _/_, _%_, _^_, _<_, _≤_}
+use Prim.Native.Nat.{ℕ, _+_, _/_, _%_, _^_, _<_, _≤_}
 use native.Mathlib.Omega.{arith}
-use mathlib.Core.Path.{_≡_, refl, sym, ap, _∙_}
+use mathlib.Core.Path.{_≡_, sym, ap, _∙_}
 use mathlib.Core.List.{List, [], _∷_, _++_, append-nil, append-assoc}
 use lib.ListN.{length, getD, take, drop, length-append, length-drop, drop-of-length-le, take-append-drop}
 use lib.Seq.{take-at, drop-at, take-all, drop-drop, getD-drop}
@@ -11,9 +11,9 @@ use Rattle.bptc.specs.Bytes.{Bytes}
 use Rattle.bptc.specs.Colour.{black, bytesOf}
 use Rattle.bptc.proofs.Rows.{listed}
 use Rattle.bptc_block.specs.declared.Reading.{Reading}
-use Rattle.bptc_block.specs.Bits.{split, join}
+use Rattle.bptc_block.specs.Bits.{split}
 use Rattle.bptc_block.specs.Bytes.{bytes, number}
-use Rattle.bptc_block.proofs.Bytes.{length-bytes, number-bytes, bytes-number}
+use Rattle.bptc_block.proofs.Bytes.{number-bytes, bytes-number}
 use Rattle.chooser.specs.declared.Chooser.{Chooser}
 use Rattle.bc7_c.specs.Parts.{chooserBytes, chooserIn, headBytes}
 
@@ -72,17 +72,7 @@ pub head-listed : (r : Reading) → length (r .ends) ≡ 4 →
 unfolding headBytes
 head-listed r four = ap (λ (es : List Rgb). r .mode ∷ (r .partition ∷ (bytesOf es ++ (r .p ∷ [])))) (listed black (r .ends) 4 four)
 
--- the number of four bytes
-pub number-four : (bs : List ℕ) → length bs ≡ 4 → getD bs 0 0 + getD bs 1 0 * 256 + getD bs 2 0 * 65536 + getD bs 3 0 * 16777216 ≡ number bs
-unfolding number join
-number-four (a ∷ (b ∷ (c ∷ (d ∷ [])))) e = omega arith
-number-four [] e = absurd (omega arith)
-number-four (a ∷ []) e = absurd (omega arith)
-number-four (a ∷ (b ∷ [])) e = absurd (omega arith)
-number-four (a ∷ (b ∷ (c ∷ []))) e = absurd (omega arith)
-number-four (a ∷ (b ∷ (c ∷ (d ∷ (x ∷ xs))))) e = absurd (omega arith)
-
--- and the four bytes of a number
+-- the four bytes of a number
 pub four-bytes : (n : ℕ) → n < 2 ^ 32 → n % 256 ∷ (n / 256 % 256 ∷ (n / 65536 % 256 ∷ (n / 16777216 ∷ []))) ≡ bytes 4 n
 unfolding bytes split
 four-bytes n h =

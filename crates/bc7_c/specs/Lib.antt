@@ -2,3 +2,4 @@ pub mod Numbers
 pub mod Masks
 pub mod Parts
 pub mod Calls
+pub mod Held

@@ -24,7 +24,7 @@ mod numbers;
 mod packing;
 mod parts;
 
-// `pack`.
+// The call `pack`: sixteen indices of four bits each. Gives the refusal's number, or 0.
 #[no_mangle]
 pub extern "C" fn bc7_pack(
     mode: u32,
@@ -61,7 +61,7 @@ pub extern "C" fn bc7_pack(
     0
 }
 
-// `finish`.
+// The call `finish`: p-bits are free where the last number is not 0. Gives the refusal above the error.
 #[no_mangle]
 pub extern "C" fn bc7_finish(
     pixels: &[u8],
@@ -86,7 +86,7 @@ pub extern "C" fn bc7_finish(
     answer(finished.refusal, finished.error)
 }
 
-// `start`, the chooser into a part of 68 bytes.
+// The call `start`, with the chooser into a part of 68 bytes. Gives the refusal's number, or 0.
 #[no_mangle]
 pub extern "C" fn bc7_start(pixels: &[u8], chooser: &mut [u8]) -> u32
     ensures answer { λ r. ⌜ r ≡ startAnswer (now (pixels .entry)) (now (chooser .entry)) ⌝ }
@@ -101,7 +101,7 @@ pub extern "C" fn bc7_start(pixels: &[u8], chooser: &mut [u8]) -> u32
     started.refusal as u32
 }
 
-// `offer`, to the chooser in such a part.
+// The call `offer`, to the chooser in such a part. Gives the refusal's number, or 0.
 #[no_mangle]
 pub extern "C" fn bc7_offer(
     chooser: &mut [u8],
@@ -127,7 +127,7 @@ pub extern "C" fn bc7_offer(
     offered.refusal as u32
 }
 
-// `take`, from the chooser in such a part.
+// The call `take`, from the chooser in such a part. Gives the refusal above the error.
 #[no_mangle]
 pub extern "C" fn bc7_take(chooser: &[u8], block: &mut [u8]) -> u64
     ensures answer { λ r. ⌜ r ≡ takeAnswer (now (chooser .entry)) (now (block .entry)) ⌝ }
@@ -141,7 +141,7 @@ pub extern "C" fn bc7_take(chooser: &[u8], block: &mut [u8]) -> u64
     answer(took.answer.refusal, took.answer.error)
 }
 
-// `read`, the fields into a part of 31 bytes.
+// The call `read`, with the fields into a part of 31 bytes. Gives the refusal's number, or 0.
 #[no_mangle]
 pub extern "C" fn bc7_read(block: &[u8], pixels: &mut [u8], fields: &mut [u8]) -> u32
     ensures answer { λ r. ⌜ r ≡ readAnswer (now (block .entry)) (now (pixels .entry)) (now (fields .entry)) ⌝ }
@@ -160,7 +160,7 @@ pub extern "C" fn bc7_read(block: &[u8], pixels: &mut [u8], fields: &mut [u8]) -
     0
 }
 
-// `measure`.
+// The call `measure`. Gives the refusal above the error.
 #[no_mangle]
 pub extern "C" fn bc7_measure(block: &[u8], pixels: &[u8]) -> u64
     ensures { λ r. ⌜ r ≡ measureAnswer (now (block .entry)) (now (pixels .entry)) ⌝ }

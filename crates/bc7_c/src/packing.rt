@@ -45,7 +45,7 @@ fn masked_refusal(
     0
 }
 
-// 3 to 7.
+// 3 to 7: the mode, and then these.
 pub(crate) fn pack_refusal(
     mode: u32,
     partition: u32,

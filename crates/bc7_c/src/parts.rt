@@ -1,20 +1,12 @@
 // A chooser and the fields of a reading, as bytes of a lent part.
 ghost use mathlib.Core.Path.{_≡_};
 ghost use lib.ListN.{length};
-ghost use Rattle.bptc_block.specs.Bytes.{bytes, number};
+ghost use Rattle.bptc_block.specs.Bytes.{bytes};
 ghost use Rattle.bc7_c.specs.Parts.{chooserBytes, chooserIn, headBytes, fieldBytes};
+use bits::reading::number;
 use block::Reading;
 use chooser::Chooser;
 use chooser::copy;
-use palette::colour::wide;
-
-// The number that four bytes make, the first lowest.
-fn number(bytes: &[u8]) -> u32
-    requires { ⌜ length (now bytes) ≡ 4 ⌝ }
-    ensures { λ r. ⌜ r ≡ number (now (bytes .entry)) ⌝ }
-{
-    wide(bytes[0]) + wide(bytes[1]) * 256 + wide(bytes[2]) * 65536 + wide(bytes[3]) * 16777216
-}
 
 // The four bytes of a number.
 fn bytes(n: u32) -> [u8; 4]

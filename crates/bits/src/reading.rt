@@ -1,7 +1,7 @@
-// The fields of a block, read by bit place.
+// The fields of a block, read by bit place, and numbers of four bytes.
 ghost use mathlib.Core.Path.{_≡_};
 ghost use Prim.Native.Nat.{_+_, _*_, _/_, _%_, _<_, _≤_};
-ghost use lib.ListN.{getD, take, drop};
+ghost use lib.ListN.{getD, length, take, drop};
 ghost use Rattle.bptc.specs.Rows.{sum};
 ghost use Rattle.bptc.specs.Mode.{Known, modeNumbered};
 ghost use Rattle.bptc_block.specs.Bits.{fieldAt, split};
@@ -12,6 +12,7 @@ use bptc::Rgb;
 use bptc_block::Fields;
 use palette::Mode1;
 use palette::Mode3;
+use palette::colour::wide;
 use palette::table::anchor;
 
 // Byte k of a block, and 0 past its end.
@@ -20,6 +21,14 @@ fn byte(block: &[u8], k: usize) -> u32
     ensures small { λ r. ⌜ r < 256 ⌝ }
 {
     if k < block.len() { block[k] as u32 } else { 0 }
+}
+
+// The number that four bytes make, the first lowest. Requires four of them.
+pub fn number(bytes: &[u8]) -> u32
+    requires { ⌜ length (now bytes) ≡ 4 ⌝ }
+    ensures { λ r. ⌜ r ≡ number (now (bytes .entry)) ⌝ }
+{
+    wide(bytes[0]) + wide(bytes[1]) * 256 + wide(bytes[2]) * 65536 + wide(bytes[3]) * 16777216
 }
 
 // The field of `width` bits that begins at bit `at` of a block.

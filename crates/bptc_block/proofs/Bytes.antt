@@ -52,6 +52,16 @@ pub number-lt : (bs : List ℕ) → Bytes bs → number bs < 256 ^ length bs
 unfolding number
 number-lt bs h = rw (← bits-of (length bs)) (join-lt (fits-same 8 bs h))
 
+-- the number of four bytes
+pub number-four : (bs : List ℕ) → length bs ≡ 4 → getD bs 0 0 + getD bs 1 0 * 256 + getD bs 2 0 * 65536 + getD bs 3 0 * 16777216 ≡ number bs
+unfolding number join
+number-four (a ∷ (b ∷ (c ∷ (d ∷ [])))) e = omega arith
+number-four [] e = absurd (omega arith)
+number-four (a ∷ []) e = absurd (omega arith)
+number-four (a ∷ (b ∷ [])) e = absurd (omega arith)
+number-four (a ∷ (b ∷ (c ∷ []))) e = absurd (omega arith)
+number-four (a ∷ (b ∷ (c ∷ (d ∷ (x ∷ xs))))) e = absurd (omega arith)
+
 -- a byte by its place
 pub bytes-at : (k n i : ℕ) → i < k → getD (bytes k n) i 0 ≡ n / 256 ^ i % 256
 unfolding bytes split

@@ -5,7 +5,7 @@ use native.Mathlib.Omega.{arith}
 use mathlib.Core.Path.{_≡_, refl, sym, ap, ap₂, subst, _∙_}
 use mathlib.Core.List.{List, [], _∷_}
 use lib.Bits.{bitAnd, bitOr, and-mask, and-high, and-block, or-block, or-shifted-r}
-use lib.ListN.{length, getD, replicate}
+use lib.ListN.{length, replicate}
 use lib.Pow.{pow-pos, pow-mono, pow-add, pow-sub-lt, ones-lt, shl-lt, shl-shr, high, low}
 use Rattle.bptc_block.specs.Bits.{split, join}
 use Rattle.bptc_block.specs.Rust.IndexList.{index-list}

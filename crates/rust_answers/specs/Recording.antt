@@ -1,5 +1,5 @@
 -- What the bytes of a recording stand for.
-use Prim.Native.Nat.{ℕ, _+_, _*_, _/_, _%_}
+use Prim.Native.Nat.{ℕ, _/_, _%_}
 use mathlib.Core.List.{List, [], _∷_, map}
 use lib.Dec.{eqb}
 use lib.ListN.{getD, take, drop}
@@ -9,10 +9,6 @@ use Rattle.bptc.specs.declared.Rgb.{Rgb}
 use Rattle.bptc_block.specs.declared.Candidate.{Candidate}
 use Rattle.bptc_block.specs.declared.PBits.{PBits}
 use Rattle.bptc_block.specs.declared.PBits.the-variants.{Free, Fixed}
-
--- a number of four bytes, the lowest first
-abbrev pub numberIn : List ℕ → ℕ
-numberIn bs = getD bs 0 0 + getD bs 1 0 * 256 + getD bs 2 0 * 65536 + getD bs 3 0 * 16777216
 
 -- an endpoint: red, green, blue
 abbrev pub endpointIn : List ℕ → Rgb

@@ -2,25 +2,10 @@
 ghost use mathlib.Core.Path.{_≡_};
 ghost use Prim.Native.Nat.{_<_};
 ghost use lib.ListN.{length};
-ghost use Rattle.rust_answers.specs.Recording.{numberIn, endpointIn, endpointsIn, pBitsIn, candidateIn, indexIn, indicesIn};
+ghost use Rattle.rust_answers.specs.Recording.{endpointIn, endpointsIn, pBitsIn, candidateIn, indexIn, indicesIn};
 use block::Candidate;
 use block::PBits;
 use block::Rgb;
-
-// A byte as a number of 32 bits.
-fn wide(x: u8) -> u32
-    ensures { λ r. ⌜ (r ≡ x) × (r < 256) ⌝ }
-{
-    x as u32
-}
-
-// The number of four bytes, the lowest first.
-pub(crate) fn number(bytes: &[u8]) -> u32
-    requires { ⌜ length (now bytes) ≡ 4 ⌝ }
-    ensures { λ r. ⌜ r ≡ numberIn (now (bytes .entry)) ⌝ }
-{
-    wide(bytes[0]) + wide(bytes[1]) * 256 + wide(bytes[2]) * 65536 + wide(bytes[3]) * 16777216
-}
 
 // The endpoint of three bytes.
 fn endpoint(bytes: &[u8]) -> Rgb

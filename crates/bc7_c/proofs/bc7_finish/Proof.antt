@@ -1,5 +1,5 @@
 -- `bc7_c::bc7_finish` meets its contract.
-use mathlib.Core.Path.{_≡_, refl, _∙_}
+use mathlib.Core.Path.{_≡_, _∙_}
 use Rattle.bptc_block.specs.FinishCall.{finishOf}
 use Rattle.bc7_c.specs.Numbers.{candidateOf}
 use Rattle.bc7_c.specs.Calls.{finishAnswer}

@@ -1,8 +1,8 @@
--- `bc7_c::parts::number` meets its contract.
-use Rattle.bc7_c.proofs.PartBytes.{number-four}
+-- `bits::reading::number` meets its contract.
+use Rattle.bptc_block.proofs.Bytes.{number-four}
 use borrow.Author.Needs.{needs}
-use Rattle.bc7_c.proofs.parts.number.Statement.{statement}
-use Rattle.bc7_c.proofs.parts.number.Tie as tie
+use Rattle.bits.proofs.reading.number.Statement.{statement}
+use Rattle.bits.proofs.reading.number.Tie as tie
 
 shared-slice-read-wide : tie.Need-shared-slice-read-wide
 shared-slice-read-wide c = search needs
