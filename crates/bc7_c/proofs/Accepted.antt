@@ -1,38 +1,30 @@
 -- What `pack` accepts of the numbers of C, and the words that it then writes.
-use Prim.Native.Nat.{ℕ, _*_, _^_, _≤_, _<_}
+use Prim.Native.Nat.{ℕ, _*_, _^_, _<_}
 use native.Mathlib.Nat.{lt-of-lt-of-le}
 use native.Mathlib.Omega.{arith}
 use mathlib.Core.Path.{_≡_, refl, ap₂}
-use mathlib.Core.Logic.{inl, inr}
 use mathlib.Core.List.{List, [], _∷_, map}
-use lib.Dec.{eqb}
 use lib.ListN.{getD}
-use lib.Pow.{pow-mono}
 use Rattle.bptc.specs.declared.Rgb.{Rgb}
-use Rattle.bptc.specs.Mode.{Mode, Known, modeNumbered}
+use Rattle.bptc.specs.Mode.{Mode, modeNumbered}
 use Rattle.bptc.specs.Colour.{black, Below}
 use Rattle.bptc.specs.Pixels.{pixelOf}
-use Rattle.bptc.proofs.Tests.{pick-elim}
 use Rattle.bptc.proofs.ColourBounds.{rgb-eq}
 use Rattle.bptc_block.specs.declared.Fields.{Fields}
 use Rattle.bptc_block.specs.Fields.{Plain, wordFields}
 use Rattle.bptc_block.specs.PackCall.{packOf}
 use Rattle.bptc_block.specs.Rust.IndexList.{index-list}
-use Rattle.bptc_block.proofs.Modes.{lawful}
 use Rattle.bptc_block.proofs.PackCall.{pack-good, pack-plain}
-use Rattle.bptc_block.proofs.WordFields.{few-bits, list-small}
+use Rattle.bptc_block.proofs.WordFields.{few-bits, channel-byte, list-small}
 use Rattle.bptc_block.proofs.Rust.Digits.{Small, split-length, list-split}
 use Rattle.bptc_block.proofs.Rust.Compressing.{plain-small}
 use Rattle.bc7_c.specs.Numbers.{endOf, endsOf, indicesOf, packedOf}
+use Rattle.bc7_c.proofs.Capped.{known-byte, small-limits}
 
 -- a number without bits above its third byte
 end-pixel : (e : ℕ) → endOf e .b < 256 → pixelOf e ≡ endOf e
 unfolding endOf pixelOf
 end-pixel e h = rgb-eq refl refl (omega arith)
-
--- the number of p-bits
-few-p : (n : ℕ) → modeNumbered n .pBits ≤ 8
-few-p n = pick-elim (λ (m : Mode). m .pBits ≤ 8) (eqb n 1) (λ t. omega arith) (λ t. omega arith)
 
 -- what is known of numbers that it accepts
 pub record Accepted (mode partition e0 e1 e2 e3 p indices : ℕ) : Type 0 where
@@ -56,15 +48,11 @@ module _ (mode partition e0 e1 e2 e3 p indices : ℕ) (part : List ℕ) (ok : pa
   abbrev f : Fields
   f = packedOf partition e0 e1 e2 e3 p indices
 
-  known-byte : Known mode → mode < 256
-  known-byte (inl e) = omega arith
-  known-byte (inr e) = omega arith
-
   in-range : Plain m f
   in-range = pack-plain mode f part ok refl (split-length 16 4 indices)
 
   pixel : (e : ℕ) → Below (2 ^ m .channelBits) (endOf e) → pixelOf e ≡ endOf e
-  pixel e h = end-pixel e (lt-of-lt-of-le (h .b) (pow-mono {j = 8} (omega (arith, lawful mode .shades .most))))
+  pixel e h = end-pixel e (lt-of-lt-of-le (h .b) (channel-byte mode))
 
   -- they are so
   pub accept : Accepted mode partition e0 e1 e2 e3 p indices
@@ -74,9 +62,9 @@ module _ (mode partition e0 e1 e2 e3 p indices : ℕ) (part : List ℕ) (ok : pa
       let ends : map pixelOf (e0 ∷ (e1 ∷ (e2 ∷ (e3 ∷ [])))) ≡ endsOf e0 e1 e2 e3 =
       rw (pixel e0 (c 0 (omega arith)), pixel e1 (c 1 (omega arith)), pixel e2 (c 2 (omega arith)), pixel e3 (c 3 (omega arith))) in
       record {
-        mode-byte = known-byte (pack-good mode f part ok .mode);
+        mode-byte = known-byte mode (pack-good mode f part ok .mode);
         partition-byte = omega (arith, in-range .partition);
-        p-byte = lt-of-lt-of-le (in-range .p) (pow-mono {j = 8} (few-p mode));
+        p-byte = omega (arith, in-range .p, small-limits mode .1);
         plain = in-range;
         small = small;
         words =

@@ -66,8 +66,13 @@ capped-bits top h (Fixed p) = capped-leb top h p
 capped-mode : (n : ℕ) → modeNumbered (capped n) ≡ modeNumbered n
 capped-mode n = rw (capped-eqb 1 (lit< tt) n)
 
+-- the number of a mode is a byte
+pub known-byte : (n : ℕ) → Known n → n < 256
+known-byte n (inl e) = omega arith
+known-byte n (inr e) = omega arith
+
 -- what is greatest in a mode is small
-small-limits : (n : ℕ) → (2 ^ modeNumbered n .channelBits - 1 < 255) × (2 ^ modeNumbered n .pBits - 1 < 255)
+pub small-limits : (n : ℕ) → (2 ^ modeNumbered n .channelBits - 1 < 255) × (2 ^ modeNumbered n .pBits - 1 < 255)
 small-limits n =
     pick-elim (λ (m : Mode). (2 ^ m .channelBits - 1 < 255) × (2 ^ m .pBits - 1 < 255)) (eqb n 1) (λ t. (lit< tt, lit< tt)) (λ t. (lit< tt, lit< tt))
 
@@ -112,10 +117,6 @@ capped-good c g =
       capped-ends (2 ^ modeNumbered (c .mode) .channelBits) (omega arith) (c .ends) (g .stored),
       capped-fixed _ bits (c .p) (g .p),
     )
-  where
-    known-byte : (n : ℕ) → Known n → n < 256
-    known-byte n (inl e) = omega arith
-    known-byte n (inr e) = omega arith
 
 -- two answers that agree where nothing is declined
 same-taken : {A : Type 0} (r : ℕ) (a b other : A) → (r ≡ 0 → a ≡ b) → pick (eqb r 0) a other ≡ pick (eqb r 0) b other

@@ -26,6 +26,10 @@ use Rattle.bptc_block.proofs.Rust.Compressing.{plain-small}
 pub few-bits : (n : ℕ) → modeNumbered n .indexBits ≤ 3
 few-bits n = pick-elim (λ (m : Mode). m .indexBits ≤ 3) (eqb n 1) (λ t. omega arith) (λ t. omega arith)
 
+-- a channel is a byte
+pub channel-byte : (n : ℕ) → 2 ^ modeNumbered n .channelBits ≤ 256
+channel-byte n = pow-mono {j = 8} (omega (arith, lawful n .shades .most))
+
 -- the words of fields in range
 module _ (n : ℕ) (f : Fields) (plain : Plain (modeNumbered n) f) where
   abbrev m : Mode
@@ -46,7 +50,7 @@ module _ (n : ℕ) (f : Fields) (plain : Plain (modeNumbered n) f) where
   byte : (k : ℕ) → k < 4 → Below 256 (end k)
   byte k h =
       let b : Below (2 ^ m .channelBits) (end k) = plain .channels k h in
-      let top : 2 ^ m .channelBits ≤ 256 = pow-mono {j = 8} (omega (arith, lawful n .shades .most)) in
+      let top : 2 ^ m .channelBits ≤ 256 = channel-byte n in
       record { r = lt-of-lt-of-le (b .r) top; g = lt-of-lt-of-le (b .g) top; b = lt-of-lt-of-le (b .b) top }
 
   -- stand for them
