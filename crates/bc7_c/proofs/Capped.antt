@@ -77,7 +77,7 @@ small-limits n =
     pick-elim (λ (m : Mode). (2 ^ m .channelBits - 1 < 255) × (2 ^ m .pBits - 1 < 255)) (eqb n 1) (λ t. (lit< tt, lit< tt)) (λ t. (lit< tt, lit< tt))
 
 -- a candidate in bytes is declined by the same number
-pub capped-checked : (c : Candidate) (rest : ℕ) → checkCandidate (cappedCandidate c) rest ≡ checkCandidate c rest
+capped-checked : (c : Candidate) (rest : ℕ) → checkCandidate (cappedCandidate c) rest ≡ checkCandidate c rest
 unfolding checkCandidate
 capped-checked c rest =
     let (channel, bits) = small-limits (c .mode) in
@@ -108,7 +108,7 @@ capped-fixed top h Free t = refl
 capped-fixed top h (Fixed p) t = rw (capped-byte p (omega (arith, leb→le p top t)))
 
 -- a candidate that no check declines is in bytes
-pub capped-good : (c : Candidate) → Good c → cappedCandidate c ≡ c
+capped-good : (c : Candidate) → Good c → cappedCandidate c ≡ c
 capped-good c g =
     let (channel, bits) = small-limits (c .mode) in
     rw (

@@ -1,5 +1,5 @@
 -- A chooser in its part is read again as it was written, and a declined offer changes no byte of it.
-use Prim.Native.Nat.{ℕ, _+_, _^_, _<_}
+use Prim.Native.Nat.{ℕ, _^_, _<_}
 use native.Mathlib.Nat.{lt-trans}
 use native.Mathlib.Omega.{arith}
 use mathlib.Core.Path.{_≡_, refl, _∙_}
@@ -7,7 +7,6 @@ use mathlib.Core.Bool.{Bool, true, false}
 use mathlib.Core.List.{List}
 use lib.Dec.{eqb, leb, lit<}
 use lib.ListN.{length, drop, length-take, length-drop}
-use lib.Seq.{getD-drop}
 use borrow.Author.Tests.{eq-eqb, eqb-true, leb-false}
 use Rattle.bptc.specs.Bytes.{Bytes}
 use Rattle.bptc.specs.Tests.{pick}
@@ -22,7 +21,7 @@ use Rattle.chooser.proofs.Calls.{start-answer, started-length, offer-cases, off
 use Rattle.bc7_c.specs.Parts.{chooserBytes, chooserIn}
 use Rattle.bc7_c.specs.Calls.{startPart, offerAnswer, offerPart}
 use Rattle.bc7_c.specs.Held.{StartHeld, OfferHeld, DeclinedLeaves}
-use Rattle.bc7_c.proofs.PartBytes.{bytes-in, in-bytes}
+use Rattle.bc7_c.proofs.PartBytes.{error-four, error-bytes, bytes-in, in-bytes}
 
 -- a chooser that has room in a part
 record Fitting (ch : Chooser) : Type 0 where
@@ -49,9 +48,7 @@ module _ (part : List ℕ) (whole : length part ≡ 68) (bytes : Bytes part) whe
       record {
         pixels = simp length-take (omega arith);
         block = simp (length-take, length-drop) (omega arith);
-        error =
-            let four : length (drop 64 part) ≡ 4 = length-drop 64 part ∙ omega arith in
-            rw four at (number-lt (drop 64 part) (λ i h. rw getD-drop (bytes (64 + i) (omega (arith, four)))));
+        error = rw (error-four part whole) at (number-lt (drop 64 part) (error-bytes part whole bytes));
       }
 
   -- and an offer to it hands one back

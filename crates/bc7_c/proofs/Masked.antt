@@ -58,7 +58,7 @@ field-masked w k v l h = rw kept (go (leb v (2 ^ k - 1)) refl)
         ne-eqb _ 0 (λ (z : v / 2 ^ k * 2 ^ k ≡ 0). omega (arith, mul-le-mul-right (2 ^ k) some, pow-pos k))
 
 -- every field
-pub masked : (ws : List ℕ) (k n : ℕ) → all (leb k) ws ≡ true → n < 2 ^ sum ws → eqb (bitAnd n (above ws k)) 0 ≡ all (λ (v : ℕ). leb v (2 ^ k - 1)) (split ws n)
+masked : (ws : List ℕ) (k n : ℕ) → all (leb k) ws ≡ true → n < 2 ^ sum ws → eqb (bitAnd n (above ws k)) 0 ≡ all (λ (v : ℕ). leb v (2 ^ k - 1)) (split ws n)
 unfolding above join split
 masked [] k n wide h = rw and-zero-r
 masked (w ∷ ws) k n wide h =
@@ -80,7 +80,7 @@ end-masked k e l h =
     ∙ ap (λ t. and (leb (e % 256) (2 ^ k - 1)) (and (leb (e / 256 % 256) (2 ^ k - 1)) t)) (and-last _ ∙ ap (λ (v : ℕ). leb v (2 ^ k - 1)) blue)
 
 -- four of them
-pub ends-masked : (k e0 e1 e2 e3 : ℕ) → k ≤ 8 → e0 < 2 ^ 32 → e1 < 2 ^ 32 → e2 < 2 ^ 32 → e3 < 2 ^ 32 →
+ends-masked : (k e0 e1 e2 e3 : ℕ) → k ≤ 8 → e0 < 2 ^ 32 → e1 < 2 ^ 32 → e2 < 2 ^ 32 → e3 < 2 ^ 32 →
     eqb (over (above endWidths k) (e0 ∷ (e1 ∷ (e2 ∷ (e3 ∷ []))))) 0 ≡ inRange (2 ^ k - 1) (endsOf e0 e1 e2 e3)
 ends-masked k e0 e1 e2 e3 l h0 h1 h2 h3 =
     let o : ℕ = above endWidths k in
@@ -96,7 +96,7 @@ ends-masked k e0 e1 e2 e3 l h0 h1 h2 h3 =
     )
 
 -- sixteen indices
-pub indices-masked : (k n : ℕ) → k ≤ 4 → n < 2 ^ 64 → eqb (bitAnd n (above (replicate 16 4) k)) 0 ≡ all (λ (i : ℕ). leb i (2 ^ k - 1)) (indicesOf n)
+indices-masked : (k n : ℕ) → k ≤ 4 → n < 2 ^ 64 → eqb (bitAnd n (above (replicate 16 4) k)) 0 ≡ all (λ (i : ℕ). leb i (2 ^ k - 1)) (indicesOf n)
 indices-masked k n l h = masked (replicate 16 4) k n (rw (le-leb k 4 l)) h
 
 -- checks 3 to 7, by the masks of a mode

@@ -18,7 +18,7 @@ use Rattle.chooser.specs.declared.Chooser.{Chooser}
 use Rattle.bc7_c.specs.Parts.{chooserBytes, chooserIn, headBytes}
 
 -- bytes put behind those that are written
-pub put-next : (front mid rest : List ℕ) (a n : ℕ) → length front ≡ a → putMid a n (front ++ rest) mid ≡ (front ++ mid) ++ drop n rest
+put-next : (front mid rest : List ℕ) (a n : ℕ) → length front ≡ a → putMid a n (front ++ rest) mid ≡ (front ++ mid) ++ drop n rest
 put-next front mid rest a n e = rw (take-at front rest a e, drop-at front rest a e) (sym (append-assoc front mid (drop n rest)))
 
 -- the last of them fill a part
@@ -26,20 +26,23 @@ pub put-last : (front mid rest : List ℕ) (a n : ℕ) → length front ≡ a �
 put-last front mid rest a n e l = rw (put-next front mid rest a n e, drop-of-length-le rest l, append-nil)
 
 module _ (part : List ℕ) (whole : length part ≡ 68) where
-  error-bytes : length (drop 64 part) ≡ 4
-  error-bytes = length-drop 64 part ∙ omega arith
+  -- its error has four bytes
+  pub error-four : length (drop 64 part) ≡ 4
+  error-four = length-drop 64 part ∙ omega arith
+
+  pub error-bytes : Bytes part → Bytes (drop 64 part)
+  error-bytes h i l = rw getD-drop (h (64 + i) (omega (arith, error-four)))
 
   -- a chooser by its pieces
   pub chooser-pieces : record { pixels = take 48 part; block = take 16 (drop 48 part); error = number (take 4 (drop 64 part)) } ≡ chooserIn part
   unfolding chooserIn
-  chooser-pieces = rw (take-all 4 (drop 64 part) (omega (arith, error-bytes)))
+  chooser-pieces = rw (take-all 4 (drop 64 part) (omega (arith, error-four)))
 
   -- a chooser's bytes are those that it was made of
   pub bytes-in : Bytes part → chooserBytes (chooserIn part) ≡ part
   unfolding chooserBytes chooserIn
   bytes-in h =
-      let own : bytes 4 (number (drop 64 part)) ≡ drop 64 part =
-      rw error-bytes at (bytes-number (drop 64 part) (λ i l. rw getD-drop (h (64 + i) (omega (arith, error-bytes))))) in
+      let own : bytes 4 (number (drop 64 part)) ≡ drop 64 part = rw error-four at (bytes-number (drop 64 part) (error-bytes h)) in
       rw (own, ← drop-drop 16 48 part, take-append-drop 16 (drop 48 part), take-append-drop 48 part)
 
 -- a chooser is the one that its bytes stand for

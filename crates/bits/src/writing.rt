@@ -68,11 +68,11 @@ fn turned_bits(swap: bool, p: u8) -> u8
 
 // A block of mode 1. Requires words whose fields are in range, and the mask and the anchor of their partition.
 fn mode1(w: Words, mask: u16, anchor: u32) -> BitStream
-    requires plain { ⌜ Plain mode1 (wordFields 3 w) ⌝ }
-    requires list { ⌜ w .indexes < 2 ^ 48 ⌝ }
+    requires plain { ⌜ Plain mode1 (wordFields (mode1 .indexBits) w) ⌝ }
+    requires list { ⌜ w .indexes < 2 ^ (16 * mode1 .indexBits) ⌝ }
     requires table { ⌜ mask ≡ maskOf (w .partition) ⌝ }
     requires place { ⌜ anchor ≡ anchorOf (w .partition) ⌝ }
-    ensures { λ r. ⌜ bytes 16 (halves (r .low) (r .high)) ≡ packed mode1 (compressed mode1 (wordFields 3 w)) ⌝ }
+    ensures { λ r. ⌜ bytes 16 (halves (r .low) (r .high)) ≡ packed mode1 (compressed mode1 (wordFields (mode1 .indexBits) w)) ⌝ }
 {
     let stored = w.ends;
     let c = compress_p2(Mode1::INDEX_BITS, w.indexes, mask, anchor);
@@ -91,11 +91,11 @@ fn mode1(w: Words, mask: u16, anchor: u32) -> BitStream
 
 // A block of mode 3, whose p-bits go with their endpoints. Requires the same.
 fn mode3(w: Words, mask: u16, anchor: u32) -> BitStream
-    requires plain { ⌜ Plain mode3 (wordFields 2 w) ⌝ }
-    requires list { ⌜ w .indexes < 2 ^ 32 ⌝ }
+    requires plain { ⌜ Plain mode3 (wordFields (mode3 .indexBits) w) ⌝ }
+    requires list { ⌜ w .indexes < 2 ^ (16 * mode3 .indexBits) ⌝ }
     requires table { ⌜ mask ≡ maskOf (w .partition) ⌝ }
     requires place { ⌜ anchor ≡ anchorOf (w .partition) ⌝ }
-    ensures { λ r. ⌜ bytes 16 (halves (r .low) (r .high)) ≡ packed mode3 (compressed mode3 (wordFields 2 w)) ⌝ }
+    ensures { λ r. ⌜ bytes 16 (halves (r .low) (r .high)) ≡ packed mode3 (compressed mode3 (wordFields (mode3 .indexBits) w)) ⌝ }
 {
     let stored = w.ends;
     let c = compress_p2(Mode3::INDEX_BITS, w.indexes, mask, anchor);

@@ -13,13 +13,13 @@ use Rattle.bptc_block.proofs.Halves.{above-lt}
 use Rattle.bptc_block.proofs.Rust.Digits.{digits, Small, split-length, split-digits, list-digits}
 
 -- two neighbours as one digit, the second g bits up
-unfoldable pub pairs : ℕ → List ℕ → List ℕ
+pairs : ℕ → List ℕ → List ℕ
 pairs g [] = []
 pairs g (a ∷ []) = []
 pairs g (a ∷ (b ∷ xs)) = (b * 2 ^ g + a) ∷ pairs g xs
 
 -- k pairs of digits of g bits
-pub data Paired (g : ℕ) : ℕ → List ℕ → Type 0 where
+data Paired (g : ℕ) : ℕ → List ℕ → Type 0 where
   none : Paired g 0 []
   two : {k a b : ℕ} {xs : List ℕ} → a < 2 ^ g → b < 2 ^ g → Paired g k xs → Paired g (suc k) (a ∷ (b ∷ xs))
 
@@ -49,7 +49,7 @@ seconds (a ∷ []) = []
 seconds (a ∷ (b ∷ xs)) = b ∷ seconds xs
 
 -- an even number of digits
-pub paired : (g k : ℕ) (xs : List ℕ) → length xs ≡ k + k → Small g xs → Paired g k xs
+paired : (g k : ℕ) (xs : List ℕ) → length xs ≡ k + k → Small g xs → Paired g k xs
 paired g zero [] e h = none
 paired g zero (x ∷ xs) e h = absurd (omega arith)
 paired g (suc k) [] e h = absurd (omega arith)
@@ -58,7 +58,7 @@ paired g (suc k) (a ∷ (b ∷ xs)) e h = two (h 0) (h 1) (paired g k xs (omega 
 
 module _ (g : ℕ) where
   -- as many pairs
-  pub pairs-length : {k : ℕ} {xs : List ℕ} → Paired g k xs → length (pairs g xs) ≡ k
+  pairs-length : {k : ℕ} {xs : List ℕ} → Paired g k xs → length (pairs g xs) ≡ k
   unfolding pairs
   pairs-length none = refl
   pairs-length (two a b q) = ap suc (pairs-length q)
@@ -68,7 +68,7 @@ module _ (g : ℕ) where
   pair-lt {a} {b} ha hb = rw (add-comm a (b * 2 ^ g)) at (above-lt a b g g ha hb)
 
   -- each has twice the bits
-  pub pairs-small : {k : ℕ} {xs : List ℕ} → Paired g k xs → Small (g + g) (pairs g xs)
+  pairs-small : {k : ℕ} {xs : List ℕ} → Paired g k xs → Small (g + g) (pairs g xs)
   unfolding pairs
   pairs-small none i = pow-pos (g + g)
   pairs-small (two ha hb q) zero = pair-lt ha hb
@@ -79,7 +79,7 @@ two-up : (n s a b : ℕ) → (n * 2 ^ s + b) * 2 ^ s + a ≡ n * 2 ^ (s + s) + (
 two-up n s a b = rw (pow-add, add-mul, mul-assoc, add-assoc)
 
 -- a number is that of its pairs
-pub grouped : (g : ℕ) {k : ℕ} {xs : List ℕ} → Paired g k xs → digits g xs ≡ digits (g + g) (pairs g xs)
+grouped : (g : ℕ) {k : ℕ} {xs : List ℕ} → Paired g k xs → digits g xs ≡ digits (g + g) (pairs g xs)
 unfolding digits join pairs
 grouped g none = refl
 grouped g (two {k} {a} {b} {xs} ha hb q) = two-up (digits g xs) g a b ∙ ap (λ (n : ℕ). n * 2 ^ (g + g) + (b * 2 ^ g + a)) (grouped g q)
@@ -121,7 +121,7 @@ module _ (g s : ℕ) (fits : g ≤ s) where
       sym (ap (λ (k : ℕ). n * 2 ^ k / 2 ^ (s - g)) d) ∙ rw (pow-add, ← mul-assoc) (shl-shr (n * 2 ^ g) (s - g))
 
   -- the upper digit of each pair moved down to the lower
-  pub closed : {k by : ℕ} {xs : List ℕ} → by ≡ s - g → Paired g k xs → closeUp s k by (digits s xs) ≡ digits (s + s) (pairs g xs)
+  closed : {k by : ℕ} {xs : List ℕ} → by ≡ s - g → Paired g k xs → closeUp s k by (digits s xs) ≡ digits (s + s) (pairs g xs)
   closed {k} {by} {xs} e q = rw (e, and-low q, and-upper q, shifted (digits (s + s) (seconds xs))) (or-pairs q)
 
 -- one digit is the number, whatever its bits
@@ -133,7 +133,7 @@ single s t (x ∷ (y ∷ xs)) e = absurd (omega arith)
 
 -- sixteen digits of four bits, closed up to the g bits that each of them has
 module _ (g : ℕ) (few : g ≤ 4) (xs : List ℕ) (sixteen : length xs ≡ 16) (small : Small g xs) where
-  pub narrow : closeUp 32 1 (8 * (4 - g)) (closeUp 16 2 (4 * (4 - g)) (closeUp 8 4 (2 * (4 - g)) (closeUp 4 8 (4 - g) (digits 4 xs)))) ≡ digits g xs
+  narrow : closeUp 32 1 (8 * (4 - g)) (closeUp 16 2 (4 * (4 - g)) (closeUp 8 4 (2 * (4 - g)) (closeUp 4 8 (4 - g) (digits 4 xs)))) ≡ digits g xs
   narrow =
       let q₁ : Paired g 8 xs = paired g 8 xs (omega arith) small in
       let h : ℕ = g + g in

@@ -38,7 +38,7 @@ module _ (n : ℕ) (f : Fields) (plain : Plain (modeNumbered n) f) where
   abbrev end : ℕ → Rgb
   end k = getD (f .ends) k black
 
-  abbrev pub wordsOf : Words
+  abbrev wordsOf : Words
   wordsOf =
       record {
         partition = f .partition;

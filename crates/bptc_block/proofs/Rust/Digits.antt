@@ -72,7 +72,7 @@ replicate-le (suc k) I zero = omega arith
 replicate-le (suc k) I (suc i) = replicate-le k I i
 
 -- have I bits
-pub split-small : (k I n : ℕ) → Small I (split (replicate k I) n)
+split-small : (k I n : ℕ) → Small I (split (replicate k I) n)
 split-small k I n i = lt-of-lt-of-le (fits-at (fits-split (replicate k I) n) i) (pow-mono (replicate-le k I i))
 
 -- and make the number again

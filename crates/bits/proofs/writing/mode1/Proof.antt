@@ -14,10 +14,10 @@ use Rattle.bits.proofs.writing.mode1.Tie as tie
 
 -- what is written: the compressed fields
 module _ (c : tie.After-swapped) where
-  made : Ready mode1 (wordFields 3 (c .before .before .before .args .w)) (c .swapped .result) (c .before .before .before .args .w .p) (c .before .compress-p2 .result .indexes)
+  made : Ready mode1 (wordFields (mode1 .indexBits) (c .before .before .before .args .w)) (c .swapped .result) (c .before .before .before .args .w .p) (c .before .compress-p2 .result .indexes)
   made =
       let s = c .before .before .before in
-      let f = wordFields 3 (s .args .w) in
+      let f = wordFields (mode1 .indexBits) (s .args .w) in
       let r = c .before .compress-p2 in
       let list = sym (split-list 3 (omega arith) (s .args .w .indexes) (s .pre .1 .0)) in
       rw (c .swapped .ensures)

@@ -15,11 +15,11 @@ use Rattle.bits.proofs.writing.mode3.Tie as tie
 
 -- what is written: the compressed fields
 module _ (c : tie.After-turned-bits2) where
-  made : Ready mode3 (wordFields 2 (c .before .before .before .before .before .before .before .args .w)) (c .before .before .before .before .swapped .result) (c .before .before .turned-bits .result + c .turned-bits2 .result * 4) (c .before .before .before .before .before .compress-p2 .result .indexes)
+  made : Ready mode3 (wordFields (mode3 .indexBits) (c .before .before .before .before .before .before .before .args .w)) (c .before .before .before .before .swapped .result) (c .before .before .turned-bits .result + c .turned-bits2 .result * 4) (c .before .before .before .before .before .compress-p2 .result .indexes)
   made =
       let p2 = c .before .before .before .before .before in
       let s = p2 .before .before in
-      let f = wordFields 2 (s .args .w) in
+      let f = wordFields (mode3 .indexBits) (s .args .w) in
       let r = p2 .compress-p2 in
       let list = sym (split-list 2 (omega arith) (s .args .w .indexes) (s .pre .1 .0)) in
       rw (c .before .before .before .before .swapped .ensures)
