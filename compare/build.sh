@@ -1,8 +1,9 @@
-# What the commands of this folder share: the items of the Rust, the library and the programs, all made under target/compare.
+# What the commands of this folder share: the items of the Rust, the library and the programs, made under target.
 
 root=$(cd "$(dirname "${BASH_SOURCE[0]}")/.." && pwd)
 out=$root/target/compare
 mkdir -p "$out"
+export PYTHONDONTWRITEBYTECODE=1
 
 # Ends with a line on standard error and a status.
 fail() {
@@ -15,13 +16,31 @@ cut_items() {
     python3 "$root/compare/cut.py" "$1" "$out/cut.rs"
 }
 
+# Runs rt on a crate in the repository's root; its output goes to a log.
+run_rt() {
+    local log=$out/$1.log
+    (cd "$root" && rt "$@") >"$log" 2>&1 || fail 1 "rt $* failed: see $log"
+}
+
 # Sets lib to the library, which is made unless BC7_LIB names one.
 make_library() {
     lib=${BC7_LIB:-$root/target/staticlib/libbc7_c.a}
-    if [ -z "${BC7_LIB:-}" ]; then
-        (cd "$root" && rt staticlib bc7_c) >"$out/staticlib.log" 2>&1 || fail 1 "rt staticlib bc7_c failed: see $out/staticlib.log"
-    fi
+    [ -n "${BC7_LIB:-}" ] || run_rt staticlib bc7_c
     [ -f "$lib" ] || fail 1 "$lib: no such library"
+}
+
+# Sets program to bc7, which is made unless BC7 names one.
+make_program() {
+    program=${BC7:-$root/target/bin/bc7}
+    [ -n "${BC7:-}" ] || run_rt check bc7
+    [ -f "$program" ] && [ -x "$program" ] || fail 1 "$program: no such program"
+    program=$(realpath -- "$program")
+}
+
+# Sets python to Debian's own python3, for which its packages of the decoders are, unless PYTHON names another.
+find_python() {
+    python=${PYTHON:-/usr/bin/python3}
+    command -v "$python" >/dev/null || fail 1 "$python: no such program"
 }
 
 # Compiles a program of this folder; further arguments go to rustc. The Rust's assertions and overflow checks are in it unless these

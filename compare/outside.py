@@ -2,13 +2,13 @@
 
 import ctypes
 import random
-import struct
 import sys
 from ctypes import c_size_t, c_uint32, c_uint64
 
+from decoders import compared, ended
+
 ACROSS = 256  # blocks in a row of the file
 FINISHED, PACKED, ANY = 200, 100, 100  # blocks of each kind for each mode and partition
-SHOWN = 3  # differing pixels shown of each decoder
 
 
 class Library:
@@ -116,14 +116,6 @@ def drawn_blocks(library, draw):
     return blocks
 
 
-def dds(blocks):
-    """A DDS file of blocks in rows, with the DX10 header and DXGI format 98 (BC7)."""
-    width, height = 4 * ACROSS, 4 * (len(blocks) // ACROSS)
-    form = struct.pack("<2I4s5I", 32, 4, b"DX10", 0, 0, 0, 0, 0)
-    header = struct.pack("<7I44x32s5I", 124, 0x81007, height, width, 16 * len(blocks), 0, 1, form, 0x1000, 0, 0, 0, 0)
-    return b"DDS " + header + struct.pack("<5I", 98, 3, 0, 1, 0) + b"".join(blocks)
-
-
 def picture(library, blocks):
     """The blocks' pixels as the library reads them: red, green, blue and alpha 255, row by row."""
     rows = bytearray()
@@ -136,79 +128,15 @@ def picture(library, blocks):
     return bytes(rows)
 
 
-def pillow(path):
-    """Pillow's version and what it reads."""
-    import PIL
-    from PIL import Image
-
-    with Image.open(path) as image:
-        return PIL.__version__, image.convert("RGBA").tobytes()
-
-
-def openimageio(path):
-    """OpenImageIO's version and what it reads; its channels come as parts of 1."""
-    import OpenImageIO
-
-    image = OpenImageIO.ImageBuf(path)
-    if not image.read() or image.has_error:
-        raise OSError(image.geterror())
-    width, height = image.spec().width, image.spec().height
-    pixels = (image.getpixel(x, y) for y in range(height) for x in range(width))
-    return OpenImageIO.VERSION_STRING, bytes(round(255 * channel) for pixel in pixels for channel in pixel)
-
-
-DECODERS = (("Pillow", "python3-pil", pillow), ("OpenImageIO", "python3-openimageio", openimageio))
-
-
-def show(name, blocks, at, ours, theirs):
-    """Prints one differing pixel with its block."""
-    row, column = divmod(at, 4 * ACROSS)
-    block = blocks[row // 4 * ACROSS + column // 4]
-    pixel = row % 4 * 4 + column % 4
-    print(f"differs: {name}: block {block.hex(' ')} pixel {pixel}: ours {list(ours)}, theirs {list(theirs)}")
-
-
-def differing(name, blocks, ours, theirs):
-    """How many pixels differ; the first of them are shown. A picture of another size differs everywhere."""
-    count = len(ours) // 4
-    if len(ours) != len(theirs):
-        return count
-    places = [at for at in range(count) if ours[4 * at : 4 * at + 4] != theirs[4 * at : 4 * at + 4]] if ours != theirs else []
-    for at in places[:SHOWN]:
-        show(name, blocks, at, ours[4 * at : 4 * at + 4], theirs[4 * at : 4 * at + 4])
-    return len(places)
-
-
-def decoded(name, package, decode, path):
-    """A decoder's version and pixels, or None with a line that says why."""
-    try:
-        return decode(path)
-    except ImportError as error:
-        print(f"{name} is missing ({error}): install Debian's package {package}")
-    except Exception as error:
-        print(f"{name} does not read the file: {error}")
-    return None
-
-
 def main():
     """Draws the blocks, writes the file and compares."""
     library_path, path, seed = sys.argv[1:]
     library = Library(library_path)
     blocks = drawn_blocks(library, random.Random(int(seed)))
-    ours = picture(library, blocks)
-    with open(path, "wb") as file:
-        file.write(dds(blocks))
+    width, height = 4 * ACROSS, 4 * (len(blocks) // ACROSS)
     print(f"seed {seed}")
-    compared, differ = 0, 0
-    for name, package, decode in DECODERS:
-        answer = decoded(name, package, decode, path)
-        if answer is not None:
-            version, theirs = answer
-            apart = differing(name, blocks, ours, theirs)
-            print(f"{name} {version}: {len(blocks)} blocks, {len(ours) // 4} pixels compared, {apart} differ")
-            compared, differ = compared + 1, differ + apart
-    print(f"{len(ours) // 4} pixels compared with {compared} decoders, {differ} differ")
-    return 0 if compared == len(DECODERS) and differ == 0 else 1
+    decoders, differ = compared(path, blocks, width, height, picture(library, blocks))
+    return ended(width * height, decoders, differ)
 
 
 if __name__ == "__main__":

@@ -1,7 +1,7 @@
 -- The numbers that C hands over, any of their type, and what they stand for.
 use Prim.Native.Nat.{ℕ, _+_, _*_, _/_, _%_, _^_}
 use mathlib.Core.List.{List, [], _∷_, map}
-use lib.Dec.{eqb, ltb}
+use lib.Dec.{ltb}
 use lib.ListN.{replicate}
 use Rattle.bptc.specs.declared.Rgb.{Rgb}
 use Rattle.bptc.specs.Tests.{pick}
@@ -11,6 +11,7 @@ use Rattle.bptc_block.specs.declared.PBits.the-variants.{Free, Fixed}
 use Rattle.bptc_block.specs.declared.Candidate.{Candidate}
 use Rattle.bptc_block.specs.declared.Fields.{Fields}
 use Rattle.bptc_block.specs.Bits.{split}
+use Rattle.bptc_block.specs.Fields.{pBitsOf}
 
 -- an endpoint: red is the lowest byte, green the next, and blue all that is above, so that a bit above the third byte is out of range
 unfoldable pub endOf : ℕ → Rgb
@@ -23,10 +24,6 @@ endsOf e0 e1 e2 e3 = endOf e0 ∷ endOf e1 ∷ endOf e2 ∷ endOf e3 ∷ []
 -- sixteen indices of four bits each, that of pixel 0 lowest
 abbrev pub indicesOf : ℕ → List ℕ
 indicesOf n = split (replicate 16 4) n
-
--- p-bits: fixed where the second number is 0, and else free
-abbrev pub pBitsOf : ℕ → ℕ → PBits
-pBitsOf p free = pick (eqb free 0) (Fixed p) Free
 
 -- a candidate
 abbrev pub candidateOf : ℕ → ℕ → ℕ → ℕ → ℕ → ℕ → ℕ → ℕ → Candidate

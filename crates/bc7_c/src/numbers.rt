@@ -3,7 +3,8 @@
 ghost use mathlib.Core.Path.{_≡_};
 ghost use mathlib.Core.List.{map};
 ghost use Rattle.bptc.specs.Colour.{each};
-ghost use Rattle.bc7_c.specs.Numbers.{endOf, endsOf, pBitsOf, candidateOf, answered, capped, cappedBits, cappedCandidate};
+ghost use Rattle.bptc_block.specs.Fields.{pBitsOf};
+ghost use Rattle.bc7_c.specs.Numbers.{endOf, endsOf, candidateOf, answered, capped, cappedBits, cappedCandidate};
 use bptc::Rgb;
 use bptc_block::Candidate;
 use bptc_block::PBits;

@@ -25,7 +25,7 @@ use finishing::fields_for;
 
 mod checks;
 mod colours;
-mod pixels;
+pub mod pixels;
 
 // Packs fields into a lent block, a subset exchanged where its anchor's index has its top bit set. Gives the refusal's number, or 0.
 pub fn pack(

@@ -22,8 +22,8 @@ pub(crate) fn write_pixels(colours: [Rgb; 16], pixels: &mut [u8])
     }
 }
 
-// Pixel i.
-fn pixel(pixels: &[u8], i: usize) -> Rgb
+// Pixel i. Requires sixteen pixels and one of them.
+pub fn pixel(pixels: &[u8], i: usize) -> Rgb
     requires sixteen { ⌜ length (now pixels) ≡ 48 ⌝ }
     requires inside { ⌜ i < 16 ⌝ }
     ensures { λ r. ⌜ r ≡ getD (coloursOf (now (pixels .entry))) i black ⌝ }

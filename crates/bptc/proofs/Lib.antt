@@ -1,6 +1,7 @@
 pub mod Tests
 pub mod Tables
 pub mod Rows
+pub mod Parts
 pub mod Sums
 pub mod Least
 pub mod Digits

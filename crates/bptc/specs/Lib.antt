@@ -1,5 +1,6 @@
 pub mod Tests
 pub mod Rows
+pub mod Parts
 pub mod Least
 pub mod Digits
 pub mod Bytes

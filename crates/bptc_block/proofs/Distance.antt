@@ -3,8 +3,11 @@
 use Prim.Native.Nat.{ℕ, suc, _≤_, _<_}
 use native.Mathlib.Omega.{arith}
 use mathlib.Core.Path.{_≡_, refl, sym, ap, _∙_}
+use mathlib.Core.Bool.{Bool, true, false}
 use mathlib.Core.List.{List}
+use lib.Dec.{eqb}
 use lib.ListN.{getD}
+use borrow.Author.Tests.{eqb-true, eqb-false}
 use Rattle.bptc.specs.declared.Rgb.{Rgb}
 use Rattle.bptc.specs.Rows.{overPixels}
 use Rattle.bptc.specs.Mode.{Mode, Known, modeNumbered, largest}
@@ -14,17 +17,19 @@ use Rattle.bptc.specs.Shown.{Stored}
 use Rattle.bptc.proofs.Rows.{getD-each}
 use Rattle.bptc.proofs.Sums.{pixels-same, pixels-zero, pixels-none, pixels-most}
 use Rattle.bptc.proofs.PartitionRule.{subset-two}
-use Rattle.bptc.proofs.ColourBounds.{dist-zero, dist-self, dist-byte}
+use Rattle.bptc.proofs.ColourBounds.{colours-bytes, dist-zero, dist-self, dist-byte}
 use Rattle.bptc.proofs.Shading.{palette-byte}
 use Rattle.bptc_block.specs.declared.Fields.{Fields}
 use Rattle.bptc_block.specs.Fields.{Plain}
 use Rattle.bptc_block.specs.Packed.{modeOf, fieldsOf, packed}
 use Rattle.bptc_block.specs.Chapter.{colourAt, colours, apartAt, apart, distance}
 use Rattle.bptc_block.specs.Exchange.{compressed}
-use Rattle.bptc_block.specs.RoundTrip.{SameColours, MeasuredZero}
+use Rattle.bptc_block.specs.ReadCall.{readRefusal, readOf, readInto}
+use Rattle.bptc_block.specs.MeasureCall.{measureOf}
+use Rattle.bptc_block.specs.RoundTrip.{SameColours, MeasuredZero, MeasuredAsRead}
 use Rattle.bptc_block.proofs.Modes.{Lawful, lawful}
 use Rattle.bptc_block.proofs.Exchanging.{compressed-colour}
-use Rattle.bptc_block.proofs.ReadCall.{readable, measure-answer}
+use Rattle.bptc_block.proofs.ReadCall.{readable, read-number, read-leaves, read-pixels, read-again, measure-answer, measure-declined}
 use Rattle.bptc_block.proofs.RoundTrip.{pack-mode, pack-fields}
 
 -- the distance of the sixteen colours
@@ -76,3 +81,24 @@ pub measured-zero : MeasuredZero
 measured-zero block px h pixels =
     rw (measure-answer block px (readable block px pixels (h .sixteen) (h .mode)))
     (refl, (apart-zero block px, zero-apart block px))
+
+-- the pixels that reading gives have the block's colours
+read-same : (block px : List ℕ) → readOf block px .refusal ≡ 0 → SameColours block (readInto block px)
+unfolding colours
+read-same block px ok i h =
+    let m : Mode = modeNumbered (modeOf block) in
+    rw (read-pixels block px ok, colours-bytes) (getD-each black (colourAt m (fieldsOf m block)) 16 i h)
+
+-- so that measuring against them gives 0
+pub measured-read : MeasuredAsRead
+measured-read block px = go (eqb (readRefusal block px) 0) refl
+  where
+    go : (t : Bool) → eqb (readRefusal block px) 0 ≡ t →
+        measureOf block (readInto block px) ≡ record { refusal = readRefusal block px; error = 0 }
+    go true e =
+        let z : readRefusal block px ≡ 0 = eqb-true (readRefusal block px) 0 e in
+        let ok : readOf block (readInto block px) .refusal ≡ 0 = read-number block (readInto block px) ∙ read-again block px ∙ z in
+        rw (measure-answer block (readInto block px) ok, zero-apart block (readInto block px) (read-same block px (read-number block px ∙ z)), z)
+    go false e =
+        let ne : readRefusal block px ≡ 0 → ⊥ = eqb-false (readRefusal block px) 0 e in
+        rw (read-leaves block px (λ z. ne (sym (read-number block px) ∙ z))) (measure-declined block px ne)

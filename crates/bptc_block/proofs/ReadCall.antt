@@ -10,7 +10,9 @@ use borrow.Author.Tests.{eqb-true, eq-eqb, ne-eqb, lt-ltb}
 use Rattle.bptc.specs.Digits.{zerosBelow}
 use Rattle.bptc.specs.Mode.{Known, modeNumbered}
 use Rattle.bptc.specs.Colour.{bytesOf}
+use Rattle.bptc.proofs.Tests.{pick-elim}
 use Rattle.bptc.proofs.Digits.{zeros-zero}
+use Rattle.bptc.proofs.ColourBounds.{bytes-length}
 use Rattle.bptc_block.specs.declared.Reading.{Reading}
 use Rattle.bptc_block.specs.declared.Measured.{Measured}
 use Rattle.bptc_block.specs.Packed.{modeOf, fieldsOf}
@@ -110,3 +112,16 @@ module _ (block px : List ℕ) where
     -- and its mode is one of the two
     pub read-known : Known (modeOf block)
     read-known = one-or-three (modeOf block) (passed (isMode (modeOf block)) 8 0 (passed (ltb 0 (getD block 0 0)) 7 _ after-lengths .1) .0)
+
+  -- the part keeps its length
+  pub read-length : length (readInto block px) ≡ length px
+  unfolding readInto colours
+  read-length =
+      pick-elim (λ (bs : List ℕ). length bs ≡ length px) (eqb (readRefusal block px) 0)
+      (λ t. bytes-length _ ∙ sym (read-pixels-length (read-number ∙ eqb-true (readRefusal block px) 0 t)))
+      (λ t. refl)
+
+  -- so that the checks say the same of it afterwards
+  pub read-again : readRefusal block (readInto block px) ≡ readRefusal block px
+  unfolding readRefusal
+  read-again = rw read-length

@@ -13,6 +13,8 @@ use Rattle.bptc.specs.Colour.{black, Below}
 use Rattle.bptc.specs.Pixels.{pixelOf}
 use Rattle.bptc_block.specs.declared.Fields.{Fields}
 use Rattle.bptc_block.specs.declared.Words.{Words}
+use Rattle.bptc_block.specs.declared.PBits.{PBits}
+use Rattle.bptc_block.specs.declared.PBits.the-variants.{Free, Fixed}
 use Rattle.bptc_block.specs.Bits.{fieldAt, split}
 
 -- an index has a bit less at pixel 0 and at the anchor of subset 1
@@ -27,6 +29,10 @@ indexWidth m part i = indexWidthBy (m .indexBits) (anchorOf part) i
 abbrev pub wordFields : ℕ → Words → Fields
 wordFields bits w =
     record { partition = w .partition; ends = map pixelOf (w .ends); p = w .p; indices = split (replicate 16 bits) (w .indexes) }
+
+-- a candidate's p-bits as two numbers: fixed where the second is 0, and else free
+abbrev pub pBitsOf : ℕ → ℕ → PBits
+pBitsOf p free = pick (eqb free 0) (Fixed p) Free
 
 -- fields in range: every channel and the p-bits below a limit, and the index of pixel i below a limit of its own
 pub record Within (channel bits : ℕ) (index : ℕ → ℕ) (f : Fields) : Type 0 where

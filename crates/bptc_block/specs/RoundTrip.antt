@@ -11,7 +11,7 @@ use Rattle.bptc_block.specs.Packed.{modeOf, fieldsOf}
 use Rattle.bptc_block.specs.Chapter.{colourAt, colours}
 use Rattle.bptc_block.specs.Exchange.{compressed}
 use Rattle.bptc_block.specs.PackCall.{packOf, packInto}
-use Rattle.bptc_block.specs.ReadCall.{readingOf, fieldsRead, readOf, readInto}
+use Rattle.bptc_block.specs.ReadCall.{readRefusal, readingOf, fieldsRead, readOf, readInto}
 use Rattle.bptc_block.specs.MeasureCall.{measureOf}
 use Rattle.bptc_block.specs.Packs.{InRange}
 
@@ -47,3 +47,8 @@ abbrev pub MeasuredZero : Type 0
 MeasuredZero =
     (block px : List ℕ) → Block block → length px ≡ 48 →
     (measureOf block px .refusal ≡ 0) × ((measureOf block px .error ≡ 0 → SameColours block px) × (SameColours block px → measureOf block px .error ≡ 0))
+
+-- a block measured against the pixels that it was read into has error 0, and is declined where the reading was
+abbrev pub MeasuredAsRead : Type 0
+MeasuredAsRead =
+    (block px : List ℕ) → measureOf block (readInto block px) ≡ record { refusal = readRefusal block px; error = 0 }

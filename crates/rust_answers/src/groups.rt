@@ -7,7 +7,6 @@ use crate::calls::finishes;
 use crate::calls::measures;
 use crate::calls::packs;
 use crate::calls::takes;
-use crate::recording::candidate;
 use crate::recording::indices;
 use crate::tally::Tally;
 use crate::tally::counted;
@@ -17,6 +16,7 @@ use bits::reading::number;
 use block::Candidate;
 use chooser::Chooser;
 use libc::STDIN_FILENO;
+use proposals::records::candidate;
 
 // The bytes of a group.
 const GROUP: usize = 1028;

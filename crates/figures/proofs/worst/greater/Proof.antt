@@ -1,0 +1,13 @@
+-- `figures::worst::greater` meets its contract.
+use borrow.Author.Tests.{lt-ltb, le-ltb}
+use Rattle.figures.proofs.worst.greater.Statement.{statement}
+use Rattle.figures.proofs.worst.greater.Tie as tie
+
+returns : tie.Need-returns
+returns c = simp (lt-ltb _ _ (c .if1 .taken))
+
+returns-2 : tie.Need-returns-2
+returns-2 c = simp (le-ltb _ _ (c .if1 .left))
+
+pub greater-spec : {M : Type 1} → statement M
+greater-spec = tie.close (tie.spec returns returns-2)

@@ -1,0 +1,5 @@
+pub mod Row
+pub mod Figures
+pub mod Mean
+pub mod Shade
+pub mod Worst

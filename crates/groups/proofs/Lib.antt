@@ -1,0 +1,4 @@
+pub mod Grid
+pub mod Gathering
+pub mod Standing
+pub mod Inverse

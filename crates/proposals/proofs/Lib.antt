@@ -1,0 +1,6 @@
+pub mod Boxes
+pub mod Faces
+pub mod Offering
+pub mod Accepting
+pub mod Groups
+pub mod Baked

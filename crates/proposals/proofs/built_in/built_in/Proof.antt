@@ -1,0 +1,56 @@
+-- `proposals::built_in::built_in` meets its contract. The invariant: the proposals of the first partitions were offered.
+use Prim.Native.Nat.{_-_, _≤_}
+use native.Mathlib.Omega.{arith}
+use mathlib.Core.Path.{_≡_, refl, _∙_}
+use borrow.Author.Needs.{needs}
+use Rattle.bptc.specs.Parts.{joined}
+use Rattle.chooser.specs.Calls.{after}
+use Rattle.proposals.specs.Offers.{offers}
+use Rattle.proposals.specs.BuiltIn.{proposalsTo, proposalsOf}
+use Rattle.proposals.proofs.Offering.{proposals-next}
+use Rattle.proposals.proofs.built_in.built_in.Statement.{statement}
+use Rattle.proposals.proofs.built_in.built_in.Tie as tie
+
+abbrev Inv-loop : tie.InvT-loop
+Inv-loop held₀ partition₀ held partition = (partition ≤ 64) × (held ≡ after held₀ (offers (proposalsTo (held₀ .pixels) partition)))
+
+abbrev μ-loop : tie.MeasureT-loop
+μ-loop held₀ partition₀ held partition = 64 - partition
+
+loop-holds : tie.Need-loop-holds Inv-loop μ-loop
+unfolding after joined
+loop-holds c = (search needs, refl)
+
+offer-both-requires : tie.Need-offer-both-requires Inv-loop μ-loop
+offer-both-requires c κs = search needs
+
+add-partition : tie.Need-add-partition Inv-loop μ-loop
+add-partition c = search needs
+
+loop-less : tie.Need-loop-less Inv-loop μ-loop
+loop-less c = search needs
+
+loop-again : tie.Need-loop-again Inv-loop μ-loop
+loop-again c =
+    let at = c .before .before .loop in
+    let ch = c .before .before .before .args .ch in
+    (search needs, c .offer-both .ensures ∙ proposals-next ch (at .held) (at .partition) (at .inv .1))
+
+returns : tie.Need-returns Inv-loop μ-loop
+unfolding proposalsOf
+returns c =
+    let e : c .before .loop .partition ≡ 64 = omega arith in
+    rw e at (c .before .loop .inv .1)
+
+pub built-in-spec : {M : Type 1} → statement M
+built-in-spec =
+    tie.close
+    (tie.spec
+    Inv-loop
+    μ-loop
+    loop-holds
+    offer-both-requires
+    add-partition
+    loop-less
+    loop-again
+    returns)

@@ -1,0 +1,5 @@
+pub mod Offers
+pub mod Records
+pub mod Corners
+pub mod BuiltIn
+pub mod Baking

@@ -1,0 +1,9 @@
+pub mod RunPlaces
+pub mod PutText
+pub mod WordPlaces
+pub mod DecimalValue
+pub mod DecimalText
+pub mod PiecesText
+pub mod HeaderSizes
+pub mod HeaderRead
+pub mod Worked

@@ -1,0 +1,5 @@
+pub mod Runs
+pub mod Line
+pub mod Decimal
+pub mod Words
+pub mod Ppm
