@@ -1,22 +1,20 @@
 -- Laws of keys with one more put in.
-use Prim.Native.Nat.{ℕ, zero, suc, _+_, _<_, _≤_}
-use native.Mathlib.Nat.{le-refl, add-comm}
+use Prim.Native.Nat.{ℕ, zero, suc, _+_, _-_, _<_, _≤_, min, max}
+use native.Mathlib.Nat.{add-comm, max-le, eq-zero-or-pos}
 use native.Mathlib.Omega.{arith}
 use mathlib.Core.Path.{_≡_, refl, sym, ap, _∙_}
-use mathlib.Core.Bool.{Bool, true, false}
+use mathlib.Core.Logic.{inl, inr}
 use mathlib.Core.List.{List, [], _∷_, _++_}
-use lib.Dec.{ltb, eqb}
+use lib.Dec.{eqb}
 use lib.ListN.{length, getD, take, drop, set, replicate, length-replicate}
 use lib.Seq.{take-all}
-use borrow.Author.Tests.{ltb-true, ltb-false}
 use Rattle.bptc.specs.Tests.{pick}
-use Rattle.bptc.specs.Keys.{lesserOf}
-use Rattle.figures.specs.Worst.{greaterOf, inserted, insertedAll, Descending, times, HoldsGreatest}
+use Rattle.figures.specs.Worst.{inserted, insertedAll, Descending, times, HoldsGreatest}
 
 -- one place passed: the greater key stays, and the lesser is carried on
 pub carried-on : (keys : List ℕ) (key i : ℕ) → i < length keys →
-    take (suc i) (set keys i (greaterOf (getD keys i 0) key))
-    ++ inserted (drop (suc i) (set keys i (greaterOf (getD keys i 0) key))) (lesserOf (getD keys i 0) key)
+    take (suc i) (set keys i (max (getD keys i 0) key))
+    ++ inserted (drop (suc i) (set keys i (max (getD keys i 0) key))) (min (getD keys i 0) key)
     ≡ take i keys ++ inserted (drop i keys) key
 unfolding inserted
 carried-on [] key i h = absurd (omega arith)
@@ -26,7 +24,7 @@ carried-on (x ∷ xs) key (suc i) h = ap {B = List ℕ} (λ l. x ∷ l) (carried
 -- a key put into a list that grows by it
 put : List ℕ → ℕ → List ℕ
 put [] key = key ∷ []
-put (x ∷ xs) key = greaterOf x key ∷ put xs (lesserOf x key)
+put (x ∷ xs) key = max x key ∷ put xs (min x key)
 
 -- several
 putAll : List ℕ → List ℕ → List ℕ
@@ -37,7 +35,7 @@ putAll xs (key ∷ keys) = putAll (put xs key) keys
 put-length : (xs : List ℕ) (key : ℕ) → length (put xs key) ≡ suc (length xs)
 unfolding put
 put-length [] key = refl
-put-length (x ∷ xs) key = ap suc (put-length xs (lesserOf x key))
+put-length (x ∷ xs) key = ap suc (put-length xs (min x key))
 
 -- its first n places are those of the list that does not grow
 put-first : (n : ℕ) (xs : List ℕ) (key : ℕ) → n ≤ length xs → take n (put xs key) ≡ inserted (take n xs) key
@@ -45,7 +43,7 @@ unfolding put inserted
 put-first zero [] key h = refl
 put-first zero (x ∷ xs) key h = refl
 put-first (suc n) [] key h = absurd (omega arith)
-put-first (suc n) (x ∷ xs) key h = ap {B = List ℕ} (λ l. greaterOf x key ∷ l) (put-first n xs (lesserOf x key) (omega arith))
+put-first (suc n) (x ∷ xs) key h = ap {B = List ℕ} (λ l. max x key ∷ l) (put-first n xs (min x key) (omega arith))
 
 -- and so after several
 all-first : (n : ℕ) (xs keys : List ℕ) → n ≤ length xs → take n (putAll xs keys) ≡ insertedAll (take n xs) keys
@@ -59,38 +57,35 @@ all-first n xs (key ∷ keys) h =
 put-head : (xs : List ℕ) (key m : ℕ) → getD xs 0 0 ≤ m → key ≤ m → getD (put xs key) 0 0 ≤ m
 unfolding put
 put-head [] key m h l = l
-put-head (x ∷ xs) key m h l = go (ltb key x)
-  where
-    go : (t : Bool) → pick t x key ≤ m
-    go true = h
-    go false = l
-
--- what is carried on is at most what stays
-carried-le : (x key : ℕ) → (lesserOf x key ≤ greaterOf x key) × (x ≤ greaterOf x key)
-carried-le x key = go (ltb key x) refl
-  where
-    go : (t : Bool) → ltb key x ≡ t → (pick t key x ≤ pick t x key) × (x ≤ pick t x key)
-    go true e = (omega (arith, ltb-true key x e), le-refl x)
-    go false e = (ltb-false key x e, ltb-false key x e)
+put-head (x ∷ xs) key m h l = max-le h l
 
 -- order stays
 put-ordered : (xs : List ℕ) (key : ℕ) → Descending xs → Descending (put xs key)
 unfolding put
 put-ordered [] key d i = omega arith
 put-ordered (x ∷ xs) key d zero =
-    put-head xs (lesserOf x key) (greaterOf x key) (omega (arith, d 0, carried-le x key .1)) (carried-le x key .0)
-put-ordered (x ∷ xs) key d (suc i) = put-ordered xs (lesserOf x key) (λ i. d (suc i)) i
+    put-head xs (min x key) (max x key) (omega (arith, d 0)) (omega arith)
+put-ordered (x ∷ xs) key d (suc i) = put-ordered xs (min x key) (λ i. d (suc i)) i
 
--- of two the one picked and the other
-both : (f : ℕ → ℕ) (t : Bool) (x y : ℕ) → f (pick t x y) + f (pick t y x) ≡ f y + f x
-both f true x y = add-comm (f x) (f y)
-both f false x y = refl
+-- of two the greater and the lesser are both
+both : (f : ℕ → ℕ) (x y : ℕ) → f (max x y) + f (min x y) ≡ f y + f x
+both f x y =
+    elim (eq-zero-or-pos (x - y)) [
+      | inl h ↦
+          let high : max x y ≡ y = omega arith in
+          let low : min x y ≡ x = omega arith in
+          rw (high, low)
+      | inr h ↦
+          let high : max x y ≡ x = omega arith in
+          let low : min x y ≡ y = omega arith in
+          rw (high, low) (add-comm (f x) (f y))
+    ]
 
 -- and no key is lost or doubled
 put-times : (n : ℕ) (xs : List ℕ) (key : ℕ) → times n (put xs key) ≡ times n (key ∷ xs)
 unfolding put
 put-times n [] key = refl
-put-times n (x ∷ xs) key = omega (arith, put-times n xs (lesserOf x key), both (λ (y : ℕ). pick (eqb y n) 1 0) (ltb key x) x key)
+put-times n (x ∷ xs) key = omega (arith, put-times n xs (min x key), both (λ (y : ℕ). pick (eqb y n) 1 0) x key)
 
 -- order after several
 all-ordered : (xs keys : List ℕ) → Descending xs → Descending (putAll xs keys)
@@ -108,7 +103,7 @@ all-times n xs (key ∷ keys) = omega (arith, all-times n (put xs key) keys, put
 inserted-length : (xs : List ℕ) (key : ℕ) → length (inserted xs key) ≡ length xs
 unfolding inserted
 inserted-length [] key = refl
-inserted-length (x ∷ xs) key = ap suc (inserted-length xs (lesserOf x key))
+inserted-length (x ∷ xs) key = ap suc (inserted-length xs (min x key))
 
 -- and after several
 all-length : (xs keys : List ℕ) → length (insertedAll xs keys) ≡ length xs

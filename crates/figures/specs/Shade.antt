@@ -1,16 +1,15 @@
 -- The shades of an error map.
-use Prim.Native.Nat.{ℕ, _+_, _-_, _*_, _/_, _≤_, _<_}
+use Prim.Native.Nat.{ℕ, _+_, _-_, _*_, _/_, _≤_, _<_, min}
 use mathlib.Core.Path.{_≡_}
 use mathlib.Core.List.{List, map}
 use lib.Dec.{eqb}
 use lib.ListN.{length, getD}
 use Rattle.bptc.specs.Rows.{upFrom}
 use Rattle.bptc.specs.Tests.{pick}
-use Rattle.bptc.specs.Keys.{lesserOf}
 
 -- the brightness of an error: 255 × error / worst rounded up, at most 255; 0 where the worst is 0
 unfoldable pub shadeOf : ℕ → ℕ → ℕ
-shadeOf error worst = pick (eqb worst 0) 0 (lesserOf 255 ((error * 255 + (worst - 1)) / worst))
+shadeOf error worst = pick (eqb worst 0) 0 (min 255 ((error * 255 + (worst - 1)) / worst))
 
 -- three equal bytes for each error
 unfoldable pub shadesOf : List ℕ → ℕ → List ℕ

@@ -1,12 +1,11 @@
 -- The worst blocks, as keys in order.
-use Prim.Native.Nat.{ℕ, suc, _+_, _-_, _*_, _/_, _%_, _≤_, _<_}
+use Prim.Native.Nat.{ℕ, suc, _+_, _-_, _*_, _/_, _%_, _≤_, _<_, min, max}
 use mathlib.Core.Path.{_≡_}
 use mathlib.Core.List.{List, [], _∷_}
 use mathlib.Core.Logic.{_⊎_}
 use lib.Dec.{ltb, eqb}
 use lib.ListN.{length, getD, take, replicate}
 use Rattle.bptc.specs.Tests.{pick}
-use Rattle.bptc.specs.Keys.{lesserOf}
 
 -- the key of a block: 32 bits of its error, 24 of its number counted down, a bit of its mode, 6 of its partition, and 1 more
 abbrev pub keyOf : ℕ → ℕ → ℕ → ℕ → ℕ
@@ -28,14 +27,10 @@ modeOf key = 1 + 2 * ((key - 1) / 64 % 2)
 abbrev pub partitionOf : ℕ → ℕ
 partitionOf key = (key - 1) % 64
 
--- the greater of two keys
-abbrev pub greaterOf : ℕ → ℕ → ℕ
-greaterOf a b = pick (ltb b a) a b
-
 -- keys with one more put in: the greater stays at each place, and the lesser is carried on to the next
 unfoldable pub inserted : List ℕ → ℕ → List ℕ
 inserted [] key = []
-inserted (x ∷ xs) key = greaterOf x key ∷ inserted xs (lesserOf x key)
+inserted (x ∷ xs) key = max x key ∷ inserted xs (min x key)
 
 -- several, one after the other
 unfoldable pub insertedAll : List ℕ → List ℕ → List ℕ

@@ -1,9 +1,8 @@
 // The worst blocks, as keys in an array, greatest first. Of two keys the greater has the greater error, and at equal errors the
 // earlier block.
 ghost use mathlib.Core.Path.{_≡_};
-ghost use Prim.Native.Nat.{_-_, _<_};
-ghost use Rattle.bptc.specs.Keys.{lesserOf};
-ghost use Rattle.figures.specs.Worst.{greaterOf, keyOf, errorOf, numberOf, modeOf, partitionOf, inserted};
+ghost use Prim.Native.Nat.{_-_, _<_, min, max};
+ghost use Rattle.figures.specs.Worst.{keyOf, errorOf, numberOf, modeOf, partitionOf, inserted};
 
 // The key of a block of mode 1 or 3. It is not 0, which stands for no block.
 pub fn key(error: u32, number: u32, mode: u8, partition: u8) -> u64
@@ -52,14 +51,14 @@ pub fn key_partition(key: u64) -> u64
 
 // The greater of two keys.
 fn greater(a: u64, b: u64) -> u64
-    ensures { λ r. ⌜ r ≡ greaterOf a b ⌝ }
+    ensures { λ r. ⌜ r ≡ max a b ⌝ }
 {
     if b < a { a } else { b }
 }
 
 // The lesser of two keys.
 fn lesser(a: u64, b: u64) -> u64
-    ensures { λ r. ⌜ r ≡ lesserOf a b ⌝ }
+    ensures { λ r. ⌜ r ≡ min a b ⌝ }
 {
     if b < a { b } else { a }
 }

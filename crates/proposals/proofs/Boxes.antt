@@ -1,14 +1,14 @@
 -- Laws of the box around a subset's colours: how it grows pixel by pixel, and what lies in it.
 use Prim.Native.Nat.{ℕ, zero, suc, _+_, _≤_, _<_}
-use native.Mathlib.Nat.{le-refl, le-trans, eq-or-lt-of-le}
+use native.Mathlib.Nat.{le-trans, min-le-left, min-le-right, le-max-left, le-max-right, eq-or-lt-of-le}
 use native.Mathlib.Numerals.{add-one}
 use native.Mathlib.Omega.{arith}
 use mathlib.Core.Path.{_≡_, refl, ap, sym, _∙_}
 use mathlib.Core.Logic.{inl, inr}
 use mathlib.Core.List.{List}
-use lib.Dec.{leb, eqb}
+use lib.Dec.{eqb}
 use lib.ListN.{getD}
-use borrow.Author.Tests.{eq-eqb, ne-eqb, eqb-false, leb-true, leb-false}
+use borrow.Author.Tests.{eq-eqb, ne-eqb, eqb-false}
 use Rattle.bptc.specs.declared.Rgb.{Rgb}
 use Rattle.bptc.specs.Bytes.{Bytes}
 use Rattle.bptc.specs.Colour.{black, Below, coloursOf}
@@ -16,27 +16,7 @@ use Rattle.bptc.specs.Partition.{subsetOf}
 use Rattle.bptc.proofs.Tests.{pick-elim}
 use Rattle.bptc.proofs.ColourBounds.{below-black, pixels-shown}
 use Rattle.proposals.specs.declared.corners.Bounds.{Bounds}
-use Rattle.proposals.specs.Corners.{lesser, greater, nowhere, widened, cornersTo, cornersOf, Inside, Boxed}
-
--- the lesser of two is at most the first
-lesser-first : (a b : ℕ) → lesser a b ≤ a
-lesser-first a b = pick-elim (λ (x : ℕ). x ≤ a) (leb a b) (λ t. le-refl a) (λ t. omega (arith, leb-false a b t))
-
--- and the second
-lesser-second : (a b : ℕ) → lesser a b ≤ b
-lesser-second a b = pick-elim (λ (x : ℕ). x ≤ b) (leb a b) (λ t. leb-true a b t) (λ t. le-refl b)
-
--- the greater of two is at least the first
-greater-first : (a b : ℕ) → a ≤ greater a b
-greater-first a b = pick-elim (λ (x : ℕ). a ≤ x) (leb a b) (λ t. leb-true a b t) (λ t. le-refl a)
-
--- and the second
-greater-second : (a b : ℕ) → b ≤ greater a b
-greater-second a b = pick-elim (λ (x : ℕ). b ≤ x) (leb a b) (λ t. le-refl b) (λ t. omega (arith, leb-false a b t))
-
--- below a bound where both are
-greater-below : {a b top : ℕ} → a < top → b < top → greater a b < top
-greater-below {a} {b} {top} h k = pick-elim (λ (x : ℕ). x < top) (leb a b) (λ t. k) (λ t. h)
+use Rattle.proposals.specs.Corners.{nowhere, widened, cornersTo, cornersOf, Inside, Boxed}
 
 module _ (k : Bounds) (c : Rgb) where
   -- a box that was widened by a colour holds it
@@ -46,15 +26,15 @@ module _ (k : Bounds) (c : Rgb) where
       record {
         above =
             record {
-              r = lesser-second (k .low .r) (c .r);
-              g = lesser-second (k .low .g) (c .g);
-              b = lesser-second (k .low .b) (c .b);
+              r = min-le-right (k .low .r) (c .r);
+              g = min-le-right (k .low .g) (c .g);
+              b = min-le-right (k .low .b) (c .b);
             };
         below =
             record {
-              r = greater-second (k .high .r) (c .r);
-              g = greater-second (k .high .g) (c .g);
-              b = greater-second (k .high .b) (c .b);
+              r = le-max-right (k .high .r) (c .r);
+              g = le-max-right (k .high .g) (c .g);
+              b = le-max-right (k .high .b) (c .b);
             };
       }
 
@@ -65,15 +45,15 @@ module _ (k : Bounds) (c : Rgb) where
       record {
         above =
             record {
-              r = le-trans (lesser-first (k .low .r) (c .r)) (h .above .r);
-              g = le-trans (lesser-first (k .low .g) (c .g)) (h .above .g);
-              b = le-trans (lesser-first (k .low .b) (c .b)) (h .above .b);
+              r = le-trans (min-le-left (k .low .r) (c .r)) (h .above .r);
+              g = le-trans (min-le-left (k .low .g) (c .g)) (h .above .g);
+              b = le-trans (min-le-left (k .low .b) (c .b)) (h .above .b);
             };
         below =
             record {
-              r = le-trans (h .below .r) (greater-first (k .high .r) (c .r));
-              g = le-trans (h .below .g) (greater-first (k .high .g) (c .g));
-              b = le-trans (h .below .b) (greater-first (k .high .b) (c .b));
+              r = le-trans (h .below .r) (le-max-left (k .high .r) (c .r));
+              g = le-trans (h .below .g) (le-max-left (k .high .g) (c .g));
+              b = le-trans (h .below .b) (le-max-left (k .high .b) (c .b));
             };
       }
 
@@ -89,15 +69,15 @@ widened-shown k c h s =
     record {
       low =
           record {
-            r = omega (arith, lesser-first (k .low .r) (c .r), h .low .r);
-            g = omega (arith, lesser-first (k .low .g) (c .g), h .low .g);
-            b = omega (arith, lesser-first (k .low .b) (c .b), h .low .b);
+            r = omega (arith, min-le-left (k .low .r) (c .r), h .low .r);
+            g = omega (arith, min-le-left (k .low .g) (c .g), h .low .g);
+            b = omega (arith, min-le-left (k .low .b) (c .b), h .low .b);
           };
       high =
           record {
-            r = greater-below (h .high .r) (s .r);
-            g = greater-below (h .high .g) (s .g);
-            b = greater-below (h .high .b) (s .b);
+            r = omega (arith, h .high .r, s .r);
+            g = omega (arith, h .high .g, s .g);
+            b = omega (arith, h .high .b, s .b);
           };
     }
 

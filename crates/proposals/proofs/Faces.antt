@@ -1,27 +1,29 @@
 -- The box around a subset's colours is the smallest: each face touches a pixel.
-use Prim.Native.Nat.{ℕ, zero, suc, _≤_, _<_}
+use Prim.Native.Nat.{ℕ, zero, suc, _-_, _≤_, _<_, min, max}
+use native.Mathlib.Nat.{eq-zero-or-pos}
 use native.Mathlib.Omega.{arith}
 use mathlib.Core.Path.{_≡_, refl, sym}
-use mathlib.Core.Bool.{Bool, true, false}
-use mathlib.Core.Logic.{_⊎_, inl, inr, ⊎-swap}
+use mathlib.Core.Logic.{_⊎_, inl, inr}
 use mathlib.Core.List.{List}
-use lib.Dec.{eqb, leb}
+use lib.Dec.{eqb}
 use lib.ListN.{getD}
 use borrow.Author.Tests.{eqb-true}
 use Rattle.bptc.specs.declared.Rgb.{Rgb}
-use Rattle.bptc.specs.Tests.{pick}
 use Rattle.bptc.specs.Colour.{black, both, Below, coloursOf}
 use Rattle.bptc.specs.Partition.{subsetOf}
 use Rattle.bptc.proofs.Tests.{pick-elim}
 use Rattle.bptc.proofs.ColourBounds.{pixels-shown}
 use Rattle.proposals.specs.declared.corners.Bounds.{Bounds}
-use Rattle.proposals.specs.Corners.{lesser, greater, nowhere, widened, cornersTo, cornersOf, Inside, Touched, Tight}
+use Rattle.proposals.specs.Corners.{nowhere, widened, cornersTo, cornersOf, Inside, Touched, Tight}
 use Rattle.proposals.proofs.Boxes.{boxed}
 
--- what is picked is one of the two
-one-of : (t : Bool) (a b : ℕ) → (pick t a b ≡ a) ⊎ (pick t a b ≡ b)
-one-of true a b = inl refl
-one-of false a b = inr refl
+-- the lesser of two numbers is one of them
+min-one : (a b : ℕ) → (min a b ≡ a) ⊎ (min a b ≡ b)
+min-one a b = elim (eq-zero-or-pos (a - b)) [ inl h ↦ inl (omega arith) | inr h ↦ inr (omega arith) ]
+
+-- and so is the greater
+max-one : (a b : ℕ) → (max a b ≡ a) ⊎ (max a b ≡ b)
+max-one a b = elim (eq-zero-or-pos (b - a)) [ inl h ↦ inl (omega arith) | inr h ↦ inr (omega arith) ]
 
 -- a face of the box, which a colour that widens the box leaves where it is or moves to the colour's channel
 module _ (px : List ℕ) (partition s : ℕ) (channel : Rgb → ℕ) (face : Bounds → ℕ)
@@ -73,7 +75,7 @@ module _ (px : List ℕ) (partition s i : ℕ) (h : i < 16) (e : subsetOf partit
   unfolding widened
   low-touches white above byte =
       touches px partition s channel (λ (k : Bounds). channel (k .low))
-      (λ k d. rw (at-each lesser (k .low) d) (one-of (leb (channel (k .low)) (channel d)) (channel (k .low)) (channel d)))
+      (λ k d. rw (at-each min (k .low) d) (min-one (channel (k .low)) (channel d)))
       i h e (λ began. omega arith)
 
   -- the upper one
@@ -82,8 +84,7 @@ module _ (px : List ℕ) (partition s i : ℕ) (h : i < 16) (e : subsetOf partit
   unfolding widened
   high-touches none below =
       touches px partition s channel (λ (k : Bounds). channel (k .high))
-      (λ k d. rw (at-each greater (k .high) d)
-      (⊎-swap (one-of (leb (channel (k .high)) (channel d)) (channel d) (channel (k .high)))))
+      (λ k d. rw (at-each max (k .high) d) (max-one (channel (k .high)) (channel d)))
       i h e (λ began. omega arith)
 
 -- each face of the box

@@ -1,8 +1,8 @@
 -- The box around the colours of a subset.
-use Prim.Native.Nat.{ℕ, zero, suc, _≤_, _<_}
+use Prim.Native.Nat.{ℕ, zero, suc, _≤_, _<_, min, max}
 use mathlib.Core.Path.{_≡_}
 use mathlib.Core.List.{List}
-use lib.Dec.{leb, eqb}
+use lib.Dec.{eqb}
 use lib.ListN.{getD}
 use Rattle.bptc.specs.declared.Rgb.{Rgb}
 use Rattle.bptc.specs.Bytes.{Bytes}
@@ -11,21 +11,13 @@ use Rattle.bptc.specs.Colour.{black, both, coloursOf}
 use Rattle.bptc.specs.Partition.{subsetOf}
 use Rattle.proposals.specs.declared.corners.Bounds.{Bounds}
 
--- the lesser of two numbers
-abbrev pub lesser : ℕ → ℕ → ℕ
-lesser a b = pick (leb a b) a b
-
--- the greater of two numbers
-abbrev pub greater : ℕ → ℕ → ℕ
-greater a b = pick (leb a b) b a
-
 -- the box around no colour
 abbrev pub nowhere : Bounds
 nowhere = record { low = record { r = 255; g = 255; b = 255 }; high = black }
 
 -- the box that also holds a colour
 unfoldable pub widened : Bounds → Rgb → Bounds
-widened k c = record { low = both lesser (k .low) c; high = both greater (k .high) c }
+widened k c = record { low = both min (k .low) c; high = both max (k .high) c }
 
 -- the box around those of the first n pixels that are in subset s
 unfoldable pub cornersTo : List ℕ → ℕ → ℕ → ℕ → Bounds

@@ -1,8 +1,8 @@
 // The box around the colours of a subset.
 ghost use mathlib.Core.Path.{_≡_};
-ghost use Prim.Native.Nat.{_<_};
+ghost use Prim.Native.Nat.{_<_, min, max};
 ghost use lib.ListN.{length};
-ghost use Rattle.proposals.specs.Corners.{lesser, greater, widened, cornersOf};
+ghost use Rattle.proposals.specs.Corners.{widened, cornersOf};
 use block::Rgb;
 use block::pixels::pixel;
 
@@ -14,14 +14,14 @@ pub struct Bounds {
 
 // The lesser of two channels.
 fn lesser(a: u8, b: u8) -> u8
-    ensures { λ r. ⌜ r ≡ lesser a b ⌝ }
+    ensures { λ r. ⌜ r ≡ min a b ⌝ }
 {
     if a <= b { a } else { b }
 }
 
 // The greater of two channels.
 fn greater(a: u8, b: u8) -> u8
-    ensures { λ r. ⌜ r ≡ greater a b ⌝ }
+    ensures { λ r. ⌜ r ≡ max a b ⌝ }
 {
     if a <= b { b } else { a }
 }

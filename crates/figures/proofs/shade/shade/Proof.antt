@@ -1,5 +1,6 @@
 -- `figures::shade::shade` meets its contract.
-use borrow.Author.Tests.{eq-eqb, ne-eqb, lt-ltb, le-ltb}
+use native.Mathlib.Omega.{arith}
+use borrow.Author.Tests.{eq-eqb, ne-eqb}
 use borrow.Author.Needs.{needs}
 use Rattle.figures.specs.Shade.{shadeOf}
 use Rattle.figures.proofs.shade.shade.Statement.{statement}
@@ -26,11 +27,11 @@ cast-result c = search needs
 
 returns-2 : tie.Need-returns-2
 unfolding shadeOf
-returns-2 c = simp (ne-eqb _ _ (c .before .if1 .left), lt-ltb _ _ (c .if2 .taken))
+returns-2 c = simp (ne-eqb _ _ (c .before .if1 .left)) (omega arith)
 
 returns-3 : tie.Need-returns-3
 unfolding shadeOf
-returns-3 c = simp (ne-eqb _ _ (c .before .if1 .left), le-ltb _ _ (c .if2 .left))
+returns-3 c = simp (ne-eqb _ _ (c .before .if1 .left)) (omega arith)
 
 pub shade-spec : {M : Type 1} → statement M
 shade-spec =
