@@ -8,6 +8,7 @@ mod refused;
 mod report;
 mod rust;
 mod tables;
+mod worked;
 
 use std::io::{stderr, IsTerminal};
 use std::process::ExitCode;
@@ -28,11 +29,12 @@ fn progress(done: u64, count: u64) {
     }
 }
 
-/// The tables, and then the cases.
+/// The blocks worked by hand, the tables, and then the cases.
 fn main() -> ExitCode {
     let (count, seed) = (number(1), number(2));
     println!("seed {seed}");
     let mut report = report::Report::default();
+    worked::all(&mut report);
     tables::all(&mut report);
     let mut draw = draw::Draw(seed);
     for n in 0..count {

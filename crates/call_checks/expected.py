@@ -189,16 +189,18 @@ def call_finish(mode, partition, last, p, count, size):
 
 
 def call_read(first, size, count):
-    """The refusal of read, the bytes that it changes, and the error of what was read."""
+    """The refusal of read, the bytes that it changes, and the fields that it answers: all zero after a refusal."""
+    none = 0, (0, 0, [(0, 0, 0)] * 4, 0, [0] * 16)
     if count != 48:
-        return 1, 0, 0
+        return 1, *none
     if size != 16:
-        return 2, 0, 0
+        return 2, *none
     if first == 0:
-        return 8, 0, 0
+        return 8, *none
     if first & -first not in (2, 8):
-        return 9, 0, 0
-    return 0, sum(b != KEPT for b in pixels(*read(bytes([first] + [0] * 15)))), 0
+        return 9, *none
+    fields = read(bytes([first] + [0] * 15))
+    return 0, sum(b != KEPT for b in pixels(*fields)), fields
 
 
 def held(picture, candidates):
@@ -347,8 +349,9 @@ for case in (
     (0, 16, 48), (1, 16, 48), (4, 16, 48), (128, 16, 48), (2, 16, 48), (8, 16, 48),
     (2, 16, 47), (2, 16, 49), (2, 0, 48), (2, 15, 48), (2, 17, 48), (2, 15, 47),
 ):
-    refusal, changed, error = call_read(*case)
-    print('read', refusal, changed, 'measured', refusal, error)
+    refusal, changed, (mode, partition, ends, p, indices) = call_read(*case)
+    channels = bytes(x for e in ends for x in e).hex()
+    print('read', refusal, changed, 'fields', mode, partition, channels, p, bytes(indices).hex(), 'measured', refusal, 0)
 for mode in (1, 3):
     run(mode)
 ZERO = [(0, 0, 0)] * 4
@@ -364,6 +367,9 @@ for label, v, mode, channel, p, answer, error in (
 ):
     made = put_finished(label, [v] * 48, mode, 0, [(channel,) * 3] + ZERO[1:], p)
     assert made == (bytes.fromhex(answer), error)
+# three different channels: red 2, green 4 and blue 8
+made = put_finished('RGB', [2, 4, 8] * 16, 3, 0, [(1, 2, 4)] * 4, 0)
+assert made == (bytes.fromhex('08040281804020101008040200000000'), 0)
 for case in (
     (1, 0, 0, 0, 47, 16), (2, 0, 0, 0, 49, 16), (1, 0, 0, 0, 48, 15), (2, 0, 0, 0, 48, 17), (1, 0, 0, 0, 47, 15),
     (2, 64, 0, 0, 48, 16), (0, 0, 0, 0, 48, 16), (255, 0, 0, 0, 48, 16), (1, 64, 0, 0, 48, 16), (1, 64, 64, 0, 48, 16),

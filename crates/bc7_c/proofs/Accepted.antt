@@ -13,11 +13,11 @@ use Rattle.bptc.proofs.ColourBounds.{rgb-eq}
 use Rattle.bptc_block.specs.declared.Fields.{Fields}
 use Rattle.bptc_block.specs.Fields.{Plain, wordFields}
 use Rattle.bptc_block.specs.PackCall.{packOf}
-use Rattle.bptc_block.specs.Rust.IndexList.{index-list}
 use Rattle.bptc_block.proofs.PackCall.{pack-good, pack-plain}
-use Rattle.bptc_block.proofs.WordFields.{few-bits, channel-byte, list-small}
-use Rattle.bptc_block.proofs.Rust.Digits.{Small, split-length, list-split}
-use Rattle.bptc_block.proofs.Rust.Compressing.{plain-small}
+use Rattle.bptc_rust.specs.IndexList.{index-list}
+use Rattle.bptc_rust.proofs.WordFields.{few-bits, channel-byte, list-small}
+use Rattle.bptc_rust.proofs.Digits.{Small, split-length, list-split}
+use Rattle.bptc_rust.proofs.Compressing.{plain-small}
 use Rattle.bc7_c.specs.Numbers.{endOf, endsOf, indicesOf, packedOf}
 use Rattle.bc7_c.proofs.Capped.{known-byte, small-limits}
 

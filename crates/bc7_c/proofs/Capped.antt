@@ -8,11 +8,11 @@ use mathlib.Core.List.{List, [], _∷_, map}
 use lib.Dec.{T, lit<, eqb, leb, ltb, leb→le}
 use lib.ListN.{getD, length}
 use borrow.Author.Tests.{ltb-false, lt-leb, le-ltb, lt-ltb, ne-eqb, eqb-true}
+use Rattle.lists.specs.Tests.{pick}
+use Rattle.lists.proofs.Tests.{pick-elim}
 use Rattle.bptc.specs.declared.Rgb.{Rgb}
-use Rattle.bptc.specs.Tests.{pick}
 use Rattle.bptc.specs.Mode.{Mode, Known, modeNumbered}
 use Rattle.bptc.specs.Colour.{black, Below, each}
-use Rattle.bptc.proofs.Tests.{pick-elim}
 use Rattle.bptc_block.specs.declared.PBits.{PBits}
 use Rattle.bptc_block.specs.declared.PBits.the-variants.{Free, Fixed}
 use Rattle.bptc_block.specs.declared.Candidate.{Candidate}

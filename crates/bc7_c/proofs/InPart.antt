@@ -8,12 +8,12 @@ use mathlib.Core.List.{List}
 use lib.Dec.{eqb, leb, lit<}
 use lib.ListN.{length, drop, length-take, length-drop}
 use borrow.Author.Tests.{eq-eqb, eqb-true, leb-false}
-use Rattle.bptc.specs.Bytes.{Bytes}
-use Rattle.bptc.specs.Tests.{pick}
-use Rattle.bptc.proofs.Tests.{pick-elim}
+use Rattle.lists.specs.Bytes.{Bytes}
+use Rattle.lists.specs.Tests.{pick}
+use Rattle.lists.proofs.Tests.{pick-elim}
+use Rattle.lists.proofs.Bytes.{number-lt}
 use Rattle.bptc_block.specs.declared.Candidate.{Candidate}
-use Rattle.bptc_block.specs.Rust.Compressed.{Compressed}
-use Rattle.bptc_block.proofs.Bytes.{number-lt}
+use Rattle.bptc_block.specs.Compressed.{Compressed}
 use Rattle.chooser.specs.declared.Chooser.{Chooser}
 use Rattle.chooser.specs.declared.Offered.{Offered}
 use Rattle.chooser.specs.OfferCall.{offerRefusal, finishGives, offerOf}

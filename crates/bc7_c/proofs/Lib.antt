@@ -3,3 +3,5 @@ pub mod Masked
 pub mod Accepted
 pub mod PartBytes
 pub mod InPart
+pub mod AnswerParts
+pub mod Worked

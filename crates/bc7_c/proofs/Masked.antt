@@ -11,16 +11,16 @@ use lib.ListN.{replicate}
 use lib.Pow.{pow-pos, pow-sub-lt, lt-of-le-ones, shr-lt, shr-mod}
 use lib.Pow as P
 use borrow.Author.Tests.{ne-eqb, eqb-true, eqb-false, leb-true, leb-false, le-leb}
-use Rattle.bptc.specs.Tests.{and, all}
-use Rattle.bptc.specs.Rows.{sum}
+use Rattle.lists.specs.Tests.{and, all}
+use Rattle.lists.specs.Rows.{sum}
+use Rattle.lists.specs.Bits.{split, join}
+use Rattle.lists.proofs.Tests.{and-true, and-last}
 use Rattle.bptc.specs.Mode.{Mode, Known, modeNumbered, largest}
-use Rattle.bptc.proofs.Tests.{and-true, and-last}
-use Rattle.bptc_block.specs.Bits.{split, join}
 use Rattle.bptc_block.specs.Refusal.{within, inRange, checkCandidate, checkIndices}
 use Rattle.bptc_block.specs.PackCall.{fixedAt}
 use Rattle.bptc_block.proofs.Modes.{lawful}
 use Rattle.bptc_block.proofs.Refusals.{is-mode}
-use Rattle.bptc_block.proofs.WordFields.{few-bits}
+use Rattle.bptc_rust.proofs.WordFields.{few-bits}
 use Rattle.bc7_c.specs.Numbers.{endOf, endsOf, indicesOf, packedOf}
 use Rattle.bc7_c.specs.Masks.{above, endWidths, over, checkMasked}
 

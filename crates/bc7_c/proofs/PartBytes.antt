@@ -6,14 +6,13 @@ use mathlib.Core.List.{List, [], _∷_, _++_, append-nil, append-assoc}
 use lib.ListN.{length, getD, take, drop, length-append, length-drop, drop-of-length-le, take-append-drop}
 use lib.Seq.{take-at, drop-at, take-all, drop-drop, getD-drop}
 use borrow.Rule.Slice.PartMut.{putMid}
+use Rattle.lists.specs.Bytes.{Bytes, bytes, number}
+use Rattle.lists.specs.Bits.{split}
+use Rattle.lists.proofs.Rows.{listed}
+use Rattle.lists.proofs.Bytes.{number-bytes, bytes-number}
 use Rattle.bptc.specs.declared.Rgb.{Rgb}
-use Rattle.bptc.specs.Bytes.{Bytes}
 use Rattle.bptc.specs.Colour.{black, bytesOf}
-use Rattle.bptc.proofs.Rows.{listed}
 use Rattle.bptc_block.specs.declared.Reading.{Reading}
-use Rattle.bptc_block.specs.Bits.{split}
-use Rattle.bptc_block.specs.Bytes.{bytes, number}
-use Rattle.bptc_block.proofs.Bytes.{number-bytes, bytes-number}
 use Rattle.chooser.specs.declared.Chooser.{Chooser}
 use Rattle.bc7_c.specs.Parts.{chooserBytes, chooserIn, headBytes}
 

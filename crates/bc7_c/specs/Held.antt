@@ -4,7 +4,7 @@ use Prim.Native.Nat.{ℕ}
 use mathlib.Core.Path.{_≡_}
 use mathlib.Core.List.{List}
 use lib.ListN.{length}
-use Rattle.bptc.specs.Bytes.{Bytes}
+use Rattle.lists.specs.Bytes.{Bytes}
 use Rattle.bptc_block.specs.declared.Candidate.{Candidate}
 use Rattle.chooser.specs.StartCall.{startOf}
 use Rattle.chooser.specs.OfferCall.{offerOf}

@@ -3,7 +3,7 @@ use Prim.Native.Nat.{ℕ, _-_, _^_}
 use mathlib.Core.List.{List, [], _∷_, map}
 use lib.Bits.{bitAnd, bitOr}
 use lib.Dec.{eqb, leb}
-use Rattle.bptc_block.specs.Bits.{join}
+use Rattle.lists.specs.Bits.{join}
 use Rattle.bptc_block.specs.Refusal.{unless}
 
 -- all bits but the k lowest of each field

@@ -3,14 +3,14 @@ use Prim.Native.Nat.{ℕ, _+_, _*_, _/_, _%_, _^_}
 use mathlib.Core.List.{List, [], _∷_, map}
 use lib.Dec.{ltb}
 use lib.ListN.{replicate}
+use Rattle.lists.specs.Tests.{pick}
+use Rattle.lists.specs.Bits.{split}
 use Rattle.bptc.specs.declared.Rgb.{Rgb}
-use Rattle.bptc.specs.Tests.{pick}
 use Rattle.bptc.specs.Colour.{each}
 use Rattle.bptc_block.specs.declared.PBits.{PBits}
 use Rattle.bptc_block.specs.declared.PBits.the-variants.{Free, Fixed}
 use Rattle.bptc_block.specs.declared.Candidate.{Candidate}
 use Rattle.bptc_block.specs.declared.Fields.{Fields}
-use Rattle.bptc_block.specs.Bits.{split}
 use Rattle.bptc_block.specs.Fields.{pBitsOf}
 
 -- an endpoint: red is the lowest byte, green the next, and blue all that is above, so that a bit above the third byte is out of range

@@ -2,9 +2,9 @@
 use Prim.Native.Nat.{ℕ}
 use mathlib.Core.List.{List, [], _∷_, _++_}
 use lib.ListN.{take, drop}
+use Rattle.lists.specs.Bytes.{bytes, number}
 use Rattle.bptc.specs.Colour.{bytesOf}
 use Rattle.bptc_block.specs.declared.Reading.{Reading}
-use Rattle.bptc_block.specs.Bytes.{bytes, number}
 use Rattle.chooser.specs.declared.Chooser.{Chooser}
 
 -- the 68 bytes of a chooser: its pixels, its block and its error, lowest byte first

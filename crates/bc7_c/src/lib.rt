@@ -47,6 +47,7 @@ pub extern "C" fn bc7_pack(
     if declined != 0 {
         return declined;
     }
+    // told apart here: in a function of its own the compiler makes one piece of code of both modes, with masks chosen at run time
     let indexes = match mode {
         1 => narrowed(Mode1::INDEX_BITS, indices),
         _ => narrowed(Mode3::INDEX_BITS, indices),

@@ -1,12 +1,12 @@
 // A chooser and the fields of a reading, as bytes of a lent part.
 ghost use mathlib.Core.Path.{_≡_};
 ghost use lib.ListN.{length};
-ghost use Rattle.bptc_block.specs.Bytes.{bytes};
+ghost use Rattle.lists.specs.Bytes.{bytes};
 ghost use Rattle.bc7_c.specs.Parts.{chooserBytes, chooserIn, headBytes, fieldBytes};
-use bits::reading::number;
 use block::Reading;
 use chooser::Chooser;
 use chooser::copy;
+use reading::number;
 
 // The four bytes of a number.
 fn bytes(n: u32) -> [u8; 4]

@@ -4,10 +4,10 @@ ghost use Prim.Native.Nat.{ℕ, _+_, _-_, _*_, _/_, _^_, _<_, _≤_};
 ghost use lib.Bits.{bitAnd, bitOr};
 ghost use lib.Dec.{eqb};
 ghost use lib.ListN.{getD, length, replicate};
-ghost use Rattle.bptc.specs.Tests.{pick};
-ghost use Rattle.bptc_block.specs.Bits.{split};
-ghost use Rattle.bptc_block.specs.Rust.IndexList.{index-list};
-ghost use Rattle.bptc_block.specs.Rust.CompressedIndexList.{ensure-msb-zero, compress-single-index, bits-repeat2-u16, bits-repeat3-u16, compress-p2};
+ghost use Rattle.lists.specs.Tests.{pick};
+ghost use Rattle.lists.specs.Bits.{split};
+ghost use Rattle.bptc_rust.specs.IndexList.{index-list};
+ghost use Rattle.bptc_rust.specs.CompressedIndexList.{ensure-msb-zero, compress-single-index, bits-repeat2-u16, bits-repeat3-u16, compress-p2};
 
 // Indexes, and whether those of a subset were flipped.
 pub(crate) struct Ensured {
@@ -48,7 +48,8 @@ fn closed_up(n: u64, low: u64, high: u64, by: u32) -> u64
     (n & low) | ((n & high) >> by)
 }
 
-// The indexes as one number, from sixteen of four bits each. Requires that each has no more than `bits` bits.
+// The indexes as one number, from sixteen of four bits each: two neighbours at a time, in four steps for all of them, which is
+// quicker than digit by digit. Requires that each has no more than `bits` bits.
 pub fn narrowed(bits: u32, indices: u64) -> u64
     requires few { ⌜ bits ≤ 3 ⌝ }
     requires small { ⌜ ((i : ℕ) → getD (split (replicate 16 4) indices) i 0 < 2 ^ bits) ⌝ }

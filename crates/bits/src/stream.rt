@@ -3,9 +3,9 @@ ghost use mathlib.Core.Path.{_≡_};
 ghost use mathlib.Core.List.{[], _∷_};
 ghost use Prim.Native.Nat.{ℕ, _+_, _-_, _*_, _^_, _<_, _≤_};
 ghost use lib.ListN.{getD, length, replicate};
+ghost use Rattle.lists.specs.Bits.{join, halves};
+ghost use Rattle.lists.specs.Bytes.{bytes};
 ghost use Rattle.bptc.specs.Colour.{black, Below};
-ghost use Rattle.bptc_block.specs.Bits.{join, halves};
-ghost use Rattle.bptc_block.specs.Bytes.{bytes};
 ghost use Rattle.bptc_block.specs.Fields.{channelValues, frontWidths, frontValues};
 use bptc::Rgb;
 

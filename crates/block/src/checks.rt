@@ -2,7 +2,7 @@
 ghost use mathlib.Core.Path.{_≡_};
 ghost use lib.Dec.{leb};
 ghost use lib.ListN.{length};
-ghost use Rattle.bptc.specs.Tests.{all};
+ghost use Rattle.lists.specs.Tests.{all};
 ghost use Rattle.bptc_block.specs.Packed.{modeOf};
 ghost use Rattle.bptc_block.specs.Refusal.{within, inRange, pInRange, checkStored, checkCandidate, checkIndices, checkPixels, checkBlock, checkReadable};
 use bptc::Rgb;

@@ -12,7 +12,6 @@ use crate::checks::read_refusal;
 use crate::colours::colours;
 use crate::pixels::distance;
 use crate::pixels::write_pixels;
-use bits::reading::fields;
 use bits::writing::write_block;
 pub use bptc::Rgb;
 pub use bptc_block::Candidate;
@@ -22,6 +21,7 @@ pub use bptc_block::Measured;
 pub use bptc_block::PBits;
 pub use bptc_block::Reading;
 use finishing::fields_for;
+use reading::fields;
 
 mod checks;
 mod colours;

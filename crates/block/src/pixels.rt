@@ -2,7 +2,7 @@
 ghost use mathlib.Core.Path.{_≡_};
 ghost use Prim.Native.Nat.{_<_};
 ghost use lib.ListN.{getD, length};
-ghost use Rattle.bptc.specs.Rows.{overPixels};
+ghost use Rattle.lists.specs.Rows.{overPixels};
 ghost use Rattle.bptc.specs.Colour.{black, coloursOf, bytesOf, distSq};
 use bptc::Rgb;
 use palette::colour::dist_sq;

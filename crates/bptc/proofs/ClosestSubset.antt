@@ -5,9 +5,11 @@ use mathlib.Core.Path.{_≡_, ap, _∙_}
 use mathlib.Core.List.{List, []}
 use lib.Dec.{eqb}
 use lib.ListN.{getD, length}
+use Rattle.lists.specs.Tests.{pick}
+use Rattle.lists.specs.Bytes.{Bytes}
+use Rattle.lists.proofs.Rows.{getD-map, each-same}
+use Rattle.lists.proofs.Sums.{pixels-same}
 use Rattle.bptc.specs.declared.Rgb.{Rgb}
-use Rattle.bptc.specs.Tests.{pick}
-use Rattle.bptc.specs.Bytes.{Bytes}
 use Rattle.bptc.specs.Mode.{Mode, largest}
 use Rattle.bptc.specs.Partition.{maskOf, subsetOf}
 use Rattle.bptc.specs.Colour.{black, Below, coloursOf, distSq}
@@ -15,8 +17,6 @@ use Rattle.bptc.specs.Palette.{paletteAt, palettes}
 use Rattle.bptc.specs.Nearest.{nearest}
 use Rattle.bptc.specs.Pixels.{pixelWord, pixelOf, pixelAt, pixelWords, membersOf, atMember, overMembers}
 use Rattle.bptc.specs.Closest.{nearestIn, closestOf, inSubset, closestIn}
-use Rattle.bptc.proofs.Rows.{getD-map, each-same}
-use Rattle.bptc.proofs.Sums.{pixels-same}
 use Rattle.bptc.proofs.ColourBounds.{rgb-eq, pixels-shown, colours-length}
 use Rattle.bptc.proofs.NearestIndex.{same-by, nearest-small}
 use Rattle.bptc.proofs.Shading.{palettes-at}

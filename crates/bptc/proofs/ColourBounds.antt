@@ -5,9 +5,9 @@ use native.Mathlib.Omega.{arith}
 use mathlib.Core.Path.{_≡_, refl, ap}
 use mathlib.Core.List.{List, [], _∷_}
 use lib.ListN.{getD, length}
+use Rattle.lists.specs.Bytes.{Bytes}
 use Rattle.bptc.specs.declared.Rgb.{Rgb}
-use Rattle.bptc.specs.Bytes.{Bytes}
-use Rattle.bptc.specs.Colour.{black, Below, coloursOf, bytesOf, sqDiff, distSq}
+use Rattle.bptc.specs.Colour.{black, Below, coloursOf, pixelIn, bytesOf, sqDiff, distSq}
 
 -- colours with the same channels
 pub rgb-eq : {r r' g g' b b' : ℕ} → r ≡ r' → g ≡ g' → b ≡ b' → _≡_ {A = Rgb} (record { r = r; g = g; b = b }) (record { r = r'; g = g'; b = b' })
@@ -27,8 +27,7 @@ pixels-shown (r ∷ (g ∷ (b ∷ bs))) h zero = record { r = h 0 (omega arith);
 pixels-shown (r ∷ (g ∷ (b ∷ bs))) h (suc i) = pixels-shown bs (λ k l. h (suc (suc (suc k))) (omega arith)) i
 
 -- the colour at place i
-pub colour-at : (px : List ℕ) (i : ℕ) → i * 3 + 2 < length px →
-    getD (coloursOf px) i black ≡ record { r = getD px (i * 3) 0; g = getD px (i * 3 + 1) 0; b = getD px (i * 3 + 2) 0 }
+pub colour-at : (px : List ℕ) (i : ℕ) → i * 3 + 2 < length px → getD (coloursOf px) i black ≡ pixelIn px i
 unfolding coloursOf
 colour-at [] i h = absurd (omega arith)
 colour-at (r ∷ []) i h = absurd (omega arith)

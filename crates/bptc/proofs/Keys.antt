@@ -8,12 +8,12 @@ use mathlib.Core.List.{map}
 use lib.Dec.{leb, ltb}
 use lib.ListN.{getD, List·getD-eq-default}
 use borrow.Author.Tests.{leb-true, leb-false, ltb-true, ltb-false}
+use Rattle.lists.specs.Rows.{upFrom}
+use Rattle.lists.proofs.Rows.{getD-each}
 use Rattle.bptc.specs.declared.Rgb.{Rgb}
-use Rattle.bptc.specs.Rows.{upFrom}
 use Rattle.bptc.specs.Colour.{Below, sqDiff, distSq, dot, norm}
 use Rattle.bptc.specs.Pixels.{pixelOf}
 use Rattle.bptc.specs.Keys.{Small, raise, keyOf}
-use Rattle.bptc.proofs.Rows.{getD-each}
 use Rattle.bptc.proofs.ColourBounds.{sq-up, sq-down, product-byte}
 
 -- a pixel has bytes for channels, whatever the number

@@ -8,19 +8,19 @@ use mathlib.Core.List.{List, [], _∷_, map}
 use lib.Dec.{eqb, leb}
 use lib.ListN.{getD}
 use borrow.Author.Tests.{leb-true, leb-false, lt-ltb, le-ltb}
+use Rattle.lists.specs.Tests.{pick}
+use Rattle.lists.specs.Rows.{upFrom}
+use Rattle.lists.specs.Least.{firstLeast}
+use Rattle.lists.proofs.Rows.{upFrom-suc, getD-each, each-same}
+use Rattle.lists.proofs.Least.{least-append}
 use Rattle.bptc.specs.declared.Rgb.{Rgb}
-use Rattle.bptc.specs.Tests.{pick}
-use Rattle.bptc.specs.Rows.{upFrom}
-use Rattle.bptc.specs.Least.{firstLeast}
 use Rattle.bptc.specs.Mode.{Mode, largest}
 use Rattle.bptc.specs.Colour.{black, distSq}
 use Rattle.bptc.specs.Nearest.{nearestBy}
 use Rattle.bptc.specs.Pixels.{pixelAt, overMembers}
 use Rattle.bptc.specs.Closest.{nearestIn, closestOf}
 use Rattle.bptc.specs.Keys.{raise, keyOf, lesserOf, firstKey, nextKey, keySum, gathered, raiseIn}
-use Rattle.bptc.proofs.Rows.{upFrom-suc, getD-each, each-same}
 use Rattle.bptc.proofs.Marked.{over-same, over-add}
-use Rattle.bptc.proofs.Least.{least-append}
 use Rattle.bptc.proofs.NearestIndex.{small-by}
 
 -- of two keys the lesser has the lesser distance, and at equal distance the lower index

@@ -1,11 +1,3 @@
-pub mod Tests
-pub mod Tables
-pub mod Rows
-pub mod Parts
-pub mod Sums
-pub mod Least
-pub mod Digits
-pub mod Bytes
 pub mod PartitionRule
 pub mod ColourBounds
 pub mod PixelBytes
@@ -19,4 +11,3 @@ pub mod Marked
 pub mod Keys
 pub mod LeastKeys
 pub mod ClosestSubset
-pub mod Rust

@@ -8,14 +8,14 @@ use lib.Dec.{eqb}
 use lib.ListN.{getD}
 use lib.Pow.{pow-pos}
 use borrow.Author.Tests.{ne-eqb}
-use Rattle.bptc.specs.Tests.{pick}
-use Rattle.bptc.specs.Rows.{overPixels}
-use Rattle.bptc.specs.Digits.{bit}
+use Rattle.lists.specs.Tests.{pick}
+use Rattle.lists.specs.Rows.{overPixels}
+use Rattle.lists.specs.Digits.{bit}
+use Rattle.lists.proofs.Rows.{getD-each}
+use Rattle.lists.proofs.Sums.{pixels-same, pixels-add, pixels-split}
+use Rattle.lists.proofs.Tables.{two}
 use Rattle.bptc.specs.Pixels.{pixelAt, memberAt, membersOf, atMember, overMembers}
 use Rattle.bptc.specs.Keys.{raise, raiseIn, raisesOf}
-use Rattle.bptc.proofs.Rows.{getD-each}
-use Rattle.bptc.proofs.Sums.{pixels-same, pixels-add, pixels-split}
-use Rattle.bptc.proofs.Tables.{two}
 
 module _ (members : List ℕ) (f g : ℕ → ℕ) where
   -- the same at every pixel

@@ -4,11 +4,11 @@ use native.Mathlib.Omega.{arith}
 use mathlib.Core.Path.{_≡_}
 use mathlib.Core.Bool.{Bool}
 use lib.Dec.{T, eqb, leb, eqb→eq, leb→le}
-use Rattle.bptc.specs.Tests.{and, all}
-use Rattle.bptc.specs.Rows.{upFrom}
+use Rattle.lists.specs.Tests.{and, all}
+use Rattle.lists.specs.Rows.{upFrom}
+use Rattle.lists.proofs.Tests.{and-left, and-right}
+use Rattle.lists.proofs.Tables.{tested}
 use Rattle.bptc.specs.Mode.{Mode, mode1, mode3, weight, largest}
-use Rattle.bptc.proofs.Tests.{and-left, and-right}
-use Rattle.bptc.proofs.Tables.{tested}
 
 -- the weights lie in 64 and are mirrored, and a stored channel has from 3 to 7 bits
 pub record Shades (m : Mode) : Type 0 where

@@ -4,14 +4,14 @@ use native.Mathlib.Nat.{zero-add}
 use native.Mathlib.Omega.{arith}
 use mathlib.Core.Path.{_≡_, sym, ap}
 use mathlib.Core.List.{List, Memᴰ·cast}
+use Rattle.lists.specs.Rows.{upFrom}
+use Rattle.lists.proofs.Least.{least-all, least-keeps, least-same}
+use Rattle.lists.proofs.Rows.{upFrom-has, upFrom-below}
 use Rattle.bptc.specs.declared.Rgb.{Rgb}
-use Rattle.bptc.specs.Rows.{upFrom}
 use Rattle.bptc.specs.Mode.{Mode, largest}
 use Rattle.bptc.specs.Colour.{distSq}
 use Rattle.bptc.specs.Palette.{paletteAt}
 use Rattle.bptc.specs.Nearest.{nearestBy, nearest}
-use Rattle.bptc.proofs.Least.{least-all, least-keeps, least-same}
-use Rattle.bptc.proofs.Rows.{upFrom-has, upFrom-below}
 
 -- by any distance
 module _ (distance : Rgb → Rgb → ℕ) (colour : ℕ → Rgb) (last : ℕ) (c : Rgb) where

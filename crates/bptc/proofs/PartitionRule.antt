@@ -6,15 +6,12 @@ use mathlib.Core.Bool.{Bool, true}
 use mathlib.Core.List.{List, [], _∷_}
 use lib.Dec.{T, eqb, ltb, eqb→eq, ltb→lt}
 use lib.ListN.{getD}
-use Rattle.bptc.specs.Digits.{onesBelow}
+use Rattle.lists.specs.Digits.{onesBelow}
+use Rattle.lists.proofs.Tables.{tested, allTrue, each-true}
 use Rattle.bptc.specs.Partition.{masks, anchors, maskOf, subsetOf, anchorOf, sizeOf}
-use Rattle.bptc.specs.Rust.Subset2Map.{subset2, texts, PARTITION-SET-2}
-use Rattle.bptc.proofs.Tables.{tested, allTrue, each-true}
 
--- The table is the Rust's texts, pixel 0 lies in subset 0, and the anchor, another pixel, in subset 1, which has from 3 to 13 pixels.
+-- Pixel 0 lies in subset 0, and the anchor, another pixel, in subset 1, which has from 3 to 13 pixels.
 pub record Placed (part : ℕ) : Type 0 where
-  pub text-mask : PARTITION-SET-2 part .subset-indexes ≡ maskOf part
-  pub text-anchor : PARTITION-SET-2 part .fixup-index-2 ≡ anchorOf part
   pub mask : maskOf part < 2 ^ 16
   pub first : subsetOf part 0 ≡ 0
   pub anchor : subsetOf part (anchorOf part) ≡ 1
@@ -26,9 +23,7 @@ pub record Placed (part : ℕ) : Type 0 where
 -- the tests of a partition, one for each field
 abbrev tests : ℕ → List Bool
 tests p =
-    eqb (PARTITION-SET-2 p .subset-indexes) (maskOf p)
-    ∷ eqb (PARTITION-SET-2 p .fixup-index-2) (anchorOf p)
-    ∷ ltb (maskOf p) (2 ^ 16)
+    ltb (maskOf p) (2 ^ 16)
     ∷ eqb (subsetOf p 0) 0
     ∷ eqb (subsetOf p (anchorOf p)) 1
     ∷ ltb (anchorOf p) 16
@@ -39,19 +34,17 @@ tests p =
 
 -- every partition
 pub placed : (part : ℕ) → part < 64 → Placed part
-unfolding PARTITION-SET-2 subset2 texts subsetOf anchorOf maskOf sizeOf masks anchors onesBelow
+unfolding subsetOf anchorOf maskOf sizeOf masks anchors onesBelow
 placed part h =
     let holds : (i : ℕ) → T (getD (tests part) i true) = each-true (tests part) (tested (λ (p : ℕ). allTrue (tests p)) 64 tt part h) in
     record {
-      text-mask = eqb→eq _ _ (holds 0);
-      text-anchor = eqb→eq _ _ (holds 1);
-      mask = ltb→lt _ _ (holds 2);
-      first = eqb→eq _ _ (holds 3);
-      anchor = eqb→eq _ _ (holds 4);
-      inside = ltb→lt _ _ (holds 5);
-      apart = ltb→lt _ _ (holds 6);
-      some = ltb→lt _ _ (holds 7);
-      few = ltb→lt _ _ (holds 8);
+      mask = ltb→lt _ _ (holds 0);
+      first = eqb→eq _ _ (holds 1);
+      anchor = eqb→eq _ _ (holds 2);
+      inside = ltb→lt _ _ (holds 3);
+      apart = ltb→lt _ _ (holds 4);
+      some = ltb→lt _ _ (holds 5);
+      few = ltb→lt _ _ (holds 6);
     }
 
 -- there are two subsets

@@ -6,13 +6,13 @@ use mathlib.Core.Path.{_≡_, ap, ap₂, _∙_}
 use mathlib.Core.List.{List, [], _∷_, map}
 use lib.Arith.{sub-sub-self}
 use lib.ListN.{getD, replicate}
+use Rattle.lists.specs.Rows.{upFrom, written}
+use Rattle.lists.proofs.Rows.{getD-each, written-at, written-same}
 use Rattle.bptc.specs.declared.Rgb.{Rgb}
-use Rattle.bptc.specs.Rows.{upFrom, written}
 use Rattle.bptc.specs.Mode.{Mode, weight, largest}
 use Rattle.bptc.specs.Colour.{black, both, Below}
 use Rattle.bptc.specs.Shown.{pBit, pShown, endShownBy, endShown, Stored}
 use Rattle.bptc.specs.Palette.{between, blend, shade, paletteAt, row, rowWeights, blendedRow, blendedRows, palettes}
-use Rattle.bptc.proofs.Rows.{getD-each, written-at, written-same}
 use Rattle.bptc.proofs.ColourBounds.{rgb-eq}
 use Rattle.bptc.proofs.Modes.{Shades}
 use Rattle.bptc.proofs.ShownBytes.{p-shown-byte}
@@ -97,3 +97,10 @@ module _ (m : Mode) (shades : Shades m) where
   unfolding paletteAt
   palette-byte ends p s i two h stored =
       shade-byte _ _ i h (end-byte ends p (2 * s) (stored (2 * s) (omega arith))) (end-byte ends p (2 * s + 1) (stored (2 * s + 1) (omega arith)))
+
+-- the sum of interpolate_rgb in u16, and its high byte in u8
+pub interpolated : (w a b : ℕ) → w ≤ 256 → a < 256 → b < 256 → ((256 - w) * a + w * b + 128 < 2 ^ 16) × (((256 - w) * a + w * b + 128) / 2 ^ 8 < 2 ^ 8)
+interpolated w a b h ha hb =
+    let x : (256 - w) * a ≤ (256 - w) * 255 = mul-le-mul-left (256 - w) (omega arith) in
+    let y : w * b ≤ w * 255 = mul-le-mul-left w (omega arith) in
+    (omega arith, omega arith)

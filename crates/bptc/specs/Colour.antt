@@ -1,6 +1,7 @@
 -- Colours, the pixels that bytes stand for, and the distance between two colours.
 use Prim.Native.Nat.{ℕ, _+_, _-_, _*_, _<_}
 use mathlib.Core.List.{List, [], _∷_}
+use lib.ListN.{getD}
 use Rattle.bptc.specs.declared.Rgb.{Rgb}
 
 -- all channels 0
@@ -27,6 +28,10 @@ coloursOf [] = []
 coloursOf (r ∷ []) = []
 coloursOf (r ∷ (g ∷ [])) = []
 coloursOf (r ∷ (g ∷ (b ∷ bs))) = record { r = r; g = g; b = b } ∷ coloursOf bs
+
+-- pixel i of bytes, by their places: the demands speak of pixels so, and not by the colours that the calls' contracts speak of
+abbrev pub pixelIn : List ℕ → ℕ → Rgb
+pixelIn px i = record { r = getD px (i * 3) 0; g = getD px (i * 3 + 1) 0; b = getD px (i * 3 + 2) 0 }
 
 -- the bytes of colours
 unfoldable pub bytesOf : List Rgb → List ℕ

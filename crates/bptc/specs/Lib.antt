@@ -1,9 +1,3 @@
-pub mod Tests
-pub mod Rows
-pub mod Parts
-pub mod Least
-pub mod Digits
-pub mod Bytes
 pub mod Mode
 pub mod Partition
 pub mod Colour
@@ -13,4 +7,3 @@ pub mod Nearest
 pub mod Pixels
 pub mod Closest
 pub mod Keys
-pub mod Rust

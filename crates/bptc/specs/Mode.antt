@@ -5,7 +5,7 @@ use mathlib.Core.Logic.{_⊎_}
 use mathlib.Core.List.{List, [], _∷_}
 use lib.Dec.{eqb}
 use lib.ListN.{getD}
-use Rattle.bptc.specs.Tests.{pick}
+use Rattle.lists.specs.Tests.{pick}
 
 -- the widths have the names of the constants of `Mode1` and `Mode3`; the weights are the chapter's, in parts of 64
 pub record Mode : Type 0 where

@@ -1,9 +1,9 @@
 -- The index that a pixel gets.
 use Prim.Native.Nat.{ℕ}
 use mathlib.Core.List.{List}
+use Rattle.lists.specs.Rows.{upFrom}
+use Rattle.lists.specs.Least.{firstLeast}
 use Rattle.bptc.specs.declared.Rgb.{Rgb}
-use Rattle.bptc.specs.Rows.{upFrom}
-use Rattle.bptc.specs.Least.{firstLeast}
 use Rattle.bptc.specs.Mode.{Mode, largest}
 use Rattle.bptc.specs.Colour.{distSq}
 use Rattle.bptc.specs.Palette.{paletteAt}

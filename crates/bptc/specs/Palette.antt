@@ -2,8 +2,8 @@
 use Prim.Native.Nat.{ℕ, suc, _+_, _-_, _*_, _/_}
 use mathlib.Core.List.{List, map}
 use lib.ListN.{getD, replicate}
+use Rattle.lists.specs.Rows.{upFrom, written}
 use Rattle.bptc.specs.declared.Rgb.{Rgb}
-use Rattle.bptc.specs.Rows.{upFrom, written}
 use Rattle.bptc.specs.Mode.{Mode, weight, largest}
 use Rattle.bptc.specs.Colour.{black, both}
 use Rattle.bptc.specs.Shown.{endShown}

@@ -2,7 +2,7 @@
 use Prim.Native.Nat.{ℕ}
 use mathlib.Core.List.{List, [], _∷_}
 use lib.ListN.{getD}
-use Rattle.bptc.specs.Digits.{bit, onesBelow}
+use Rattle.lists.specs.Digits.{bit, onesBelow}
 
 -- bit i of an entry is the subset of pixel i
 unfoldable pub masks : List ℕ

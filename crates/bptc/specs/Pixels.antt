@@ -3,10 +3,10 @@ use Prim.Native.Nat.{ℕ, _+_, _*_, _/_, _%_, _^_}
 use mathlib.Core.List.{List, map}
 use lib.Dec.{eqb}
 use lib.ListN.{getD}
+use Rattle.lists.specs.Tests.{pick}
+use Rattle.lists.specs.Rows.{upFrom, overPixels}
+use Rattle.lists.specs.Digits.{bit}
 use Rattle.bptc.specs.declared.Rgb.{Rgb}
-use Rattle.bptc.specs.Tests.{pick}
-use Rattle.bptc.specs.Rows.{upFrom, overPixels}
-use Rattle.bptc.specs.Digits.{bit}
 use Rattle.bptc.specs.Colour.{coloursOf}
 
 -- a pixel as one number: red lowest, then green, then blue

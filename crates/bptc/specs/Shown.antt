@@ -2,8 +2,8 @@
 use Prim.Native.Nat.{ℕ, _+_, _-_, _*_, _/_, _^_, _<_}
 use mathlib.Core.List.{List}
 use lib.ListN.{getD}
+use Rattle.lists.specs.Digits.{bit}
 use Rattle.bptc.specs.declared.Rgb.{Rgb}
-use Rattle.bptc.specs.Digits.{bit}
 use Rattle.bptc.specs.Mode.{Mode}
 use Rattle.bptc.specs.Colour.{black, each, Below}
 

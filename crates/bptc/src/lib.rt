@@ -1,5 +1,5 @@
-// The values that the definitions of BC7 blocks speak of. This crate has no code: its specs/ are the chapter and the Rust's steps,
-// and its proofs/ the laws about them.
+// The values that the definitions of BC7 blocks speak of. This crate has no code: its specs/ are the chapter's partitions,
+// colours and palettes, and its proofs/ the laws about them.
 
 // A colour of three channels, stored or shown.
 pub struct Rgb {

@@ -8,7 +8,7 @@ use lib.Dec.{eqb, leb, ltb}
 use lib.ListN.{getD, length}
 use lib.Pow.{le-ones, lt-of-le-ones}
 use borrow.Author.Tests.{eqb-true, eq-eqb, leb-true, le-leb, ltb-true, lt-ltb}
-use Rattle.bptc.specs.Tests.{all}
+use Rattle.lists.specs.Tests.{all}
 use Rattle.bptc.specs.Mode.{Mode, mode1, mode3, Known, modeNumbered, largest}
 use Rattle.bptc.specs.Colour.{black, Below}
 use Rattle.bptc_block.specs.declared.PBits.{PBits}
@@ -18,6 +18,7 @@ use Rattle.bptc_block.specs.Packed.{modeOf}
 use Rattle.bptc_block.specs.Refusal.{unless, isMode, inRange, pInRange, checkPixels, checkBlock, checkCandidate, checkIndices, checkReadable}
 use Rattle.bptc_block.specs.Checks.{Check, passes, declines, InMode, BitsWithin, PixelsChecked, BlockChecked, CandidateChecked, IndicesChecked, ReadableChecked}
 use Rattle.bptc_block.proofs.Refusals.{one-or-three, is-mode, in-range, range-in, all-small, small-all}
+use Rattle.bptc_block.proofs.Readable.{says-known, known-says}
 
 -- a check by its test, which says what passes
 check : (Passes : Type 0) (Later : ℕ → Type 0) (t : Bool) (k rest : ℕ) → (t ≡ true → Passes) → (Passes → t ≡ true) → (Passes → Later rest) →
@@ -92,4 +93,6 @@ module _ (Later : ℕ → Type 0) (rest : ℕ) where
   pub readable-checked : (block : List ℕ) → Later rest → ReadableChecked block Later (checkReadable block rest)
   readable-checked block later =
       check _ _ (ltb 0 (getD block 0 0)) 8 _ (ltb-true 0 (getD block 0 0)) (lt-ltb 0 (getD block 0 0))
-      (λ some. check _ Later (isMode (modeOf block)) 9 rest (one-or-three (modeOf block)) (is-mode (modeOf block)) (λ h. later))
+      (λ some.
+      check _ Later (isMode (modeOf block)) 9 rest
+      (λ t. known-says block (one-or-three (modeOf block) t)) (λ h. is-mode (modeOf block) (says-known block h)) (λ h. later))

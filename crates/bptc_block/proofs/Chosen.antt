@@ -10,18 +10,18 @@ use lib.Dec.{T, eqb, leb→le}
 use lib.Pow.{lt-of-le-ones}
 use lib.ListN.{length, getD}
 use borrow.Author.Tests.{eqb-true, eqb-false}
+use Rattle.lists.specs.Tests.{pick}
+use Rattle.lists.proofs.Tables.{two}
+use Rattle.lists.proofs.Rows.{getD-each}
+use Rattle.lists.proofs.Sums.{pixels-split}
+use Rattle.lists.proofs.Least.{least-all, least-keeps}
 use Rattle.bptc.specs.declared.Rgb.{Rgb}
-use Rattle.bptc.specs.Tests.{pick}
 use Rattle.bptc.specs.Mode.{Mode, largest}
 use Rattle.bptc.specs.Partition.{subsetOf}
 use Rattle.bptc.specs.Colour.{black, Below}
 use Rattle.bptc.specs.Shown.{pBit, endShown, Stored}
 use Rattle.bptc.specs.Nearest.{nearest}
 use Rattle.bptc.specs.Closest.{closestIn}
-use Rattle.bptc.proofs.Tables.{two}
-use Rattle.bptc.proofs.Rows.{getD-each}
-use Rattle.bptc.proofs.Sums.{pixels-split}
-use Rattle.bptc.proofs.Least.{least-all, least-keeps}
 use Rattle.bptc.proofs.PartitionRule.{subset-two}
 use Rattle.bptc.proofs.NearestIndex.{nearest-small}
 use Rattle.bptc.proofs.SamePalette.{end-same, SameEnds, nearest-same}

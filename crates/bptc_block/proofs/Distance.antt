@@ -2,22 +2,23 @@
 -- the block's colour there.
 use Prim.Native.Nat.{ℕ, suc, _≤_, _<_}
 use native.Mathlib.Omega.{arith}
-use mathlib.Core.Path.{_≡_, refl, sym, ap, _∙_}
+use mathlib.Core.Path.{_≡_, refl, sym, ap, ap₂, _∙_}
 use mathlib.Core.Bool.{Bool, true, false}
-use mathlib.Core.List.{List}
+use mathlib.Core.List.{List, map}
 use lib.Dec.{eqb}
-use lib.ListN.{getD}
+use lib.ListN.{length, getD}
 use borrow.Author.Tests.{eqb-true, eqb-false}
+use Rattle.lists.specs.Rows.{upFrom, sum, overPixels}
+use Rattle.lists.proofs.Rows.{getD-each}
+use Rattle.lists.proofs.Sums.{pixels-same, pixels-zero, pixels-none, pixels-most}
 use Rattle.bptc.specs.declared.Rgb.{Rgb}
-use Rattle.bptc.specs.Rows.{overPixels}
 use Rattle.bptc.specs.Mode.{Mode, Known, modeNumbered, largest}
 use Rattle.bptc.specs.Partition.{subsetOf}
-use Rattle.bptc.specs.Colour.{black, coloursOf, distSq, Below}
+use Rattle.bptc.specs.Colour.{black, coloursOf, pixelIn, sqDiff, distSq, Below}
 use Rattle.bptc.specs.Shown.{Stored}
-use Rattle.bptc.proofs.Rows.{getD-each}
-use Rattle.bptc.proofs.Sums.{pixels-same, pixels-zero, pixels-none, pixels-most}
 use Rattle.bptc.proofs.PartitionRule.{subset-two}
-use Rattle.bptc.proofs.ColourBounds.{colours-bytes, dist-zero, dist-self, dist-byte}
+use Rattle.bptc.proofs.ColourBounds.{colour-at, dist-zero, dist-self, dist-byte}
+use Rattle.bptc.proofs.PixelBytes.{pixel-in}
 use Rattle.bptc.proofs.Shading.{palette-byte}
 use Rattle.bptc_block.specs.declared.Fields.{Fields}
 use Rattle.bptc_block.specs.Fields.{Plain}
@@ -26,11 +27,11 @@ use Rattle.bptc_block.specs.Chapter.{colourAt, colours, apartAt, apart, 
 use Rattle.bptc_block.specs.Exchange.{compressed}
 use Rattle.bptc_block.specs.ReadCall.{readRefusal, readOf, readInto}
 use Rattle.bptc_block.specs.MeasureCall.{measureOf}
-use Rattle.bptc_block.specs.RoundTrip.{SameColours, MeasuredZero, MeasuredAsRead}
+use Rattle.bptc_block.specs.RoundTrip.{apartIn, MeasuredSum, SameColours, MeasuredZero, MeasuredAsRead}
 use Rattle.bptc_block.proofs.Modes.{Lawful, lawful}
 use Rattle.bptc_block.proofs.Exchanging.{compressed-colour}
-use Rattle.bptc_block.proofs.ReadCall.{readable, read-number, read-leaves, read-pixels, read-again, measure-answer, measure-declined}
-use Rattle.bptc_block.proofs.RoundTrip.{pack-mode, pack-fields}
+use Rattle.bptc_block.proofs.ReadCall.{readable, read-number, read-leaves, read-pixels, read-pixels-length, read-length, read-again, measure-answer, measure-declined}
+use Rattle.bptc_block.proofs.RoundTrip.{pack-mode, pack-fields, block-says}
 
 -- the distance of the sixteen colours
 pub distance-colours : (px block : List ℕ) → distance px block
@@ -65,31 +66,49 @@ pack-distance mode f known plain px =
     rw (pack-mode mode f known plain, pack-fields mode f known plain) (apart-same m (coloursOf px) (compressed m f) f (compressed-colour m (lawful mode) f plain))
 
 -- a distance of 0, pixel by pixel
-module _ (block px : List ℕ) where
-  apart-zero : distance px block ≡ 0 → SameColours block px
-  unfolding distance apart apartAt
-  apart-zero e i h = dist-zero _ _ (pixels-zero _ e i h)
+module _ (block px : List ℕ) (pixels : length px ≡ 48) where
+  -- a pixel by its bytes
+  by-bytes : (i : ℕ) → i < 16 → getD (coloursOf px) i black ≡ pixelIn px i
+  by-bytes i h = colour-at px i (omega arith)
 
-  zero-apart : SameColours block px → distance px block ≡ 0
+  apart-zero : distance px block ≡ 0 → SameColours (modeOf block) block px
+  unfolding distance apart apartAt
+  apart-zero e i h = sym (by-bytes i h) ∙ dist-zero _ _ (pixels-zero _ e i h)
+
+  zero-apart : SameColours (modeOf block) block px → distance px block ≡ 0
   unfolding distance apart apartAt
   zero-apart same =
       pixels-none _
-      (λ i h. ap (λ c. distSq c (colourAt (modeNumbered (modeOf block)) (fieldsOf (modeNumbered (modeOf block)) block) i)) (same i h) ∙ dist-self _)
+      (λ i h. ap (λ c. distSq c (colourAt (modeNumbered (modeOf block)) (fieldsOf (modeNumbered (modeOf block)) block) i)) (by-bytes i h ∙ same i h) ∙ dist-self _)
 
 -- the call
 pub measured-zero : MeasuredZero
-measured-zero block px h pixels =
-    rw (measure-answer block px (readable block px pixels (h .sixteen) (h .mode)))
-    (refl, (apart-zero block px, zero-apart block px))
+measured-zero n block px h pixels =
+    let says : modeOf block ≡ n = block-says n block h in
+    rw (measure-answer block px (readable block px pixels (h .sixteen) (rw says (h .known))))
+    (refl, (rw says at (apart-zero block px pixels), rw says at (zero-apart block px pixels)))
 
 -- the pixels that reading gives have the block's colours
-read-same : (block px : List ℕ) → readOf block px .refusal ≡ 0 → SameColours block (readInto block px)
+read-same : (block px : List ℕ) → readOf block px .refusal ≡ 0 → SameColours (modeOf block) block (readInto block px)
 unfolding colours
 read-same block px ok i h =
     let m : Mode = modeNumbered (modeOf block) in
-    rw (read-pixels block px ok, colours-bytes) (getD-each black (colourAt m (fieldsOf m block)) 16 i h)
+    rw (read-pixels block px ok) (sym (pixel-in (colours m (fieldsOf m block)) i h) ∙ getD-each black (colourAt m (fieldsOf m block)) 16 i h)
 
--- so that measuring against them gives 0
+-- so that a distance is that of the pixels' bytes from those read
+read-apart : (block px into : List ℕ) → length px ≡ 48 → readOf block into .refusal ≡ 0 → distance px block ≡ sum (map (apartIn px (readInto block into)) (upFrom 0 16))
+unfolding distance apart apartAt overPixels distSq sqDiff
+read-apart block px into long ok =
+    pixels-same _ (apartIn px (readInto block into)) (λ i h. ap₂ distSq (by-bytes block px long i h) (sym (read-same block into ok i h)))
+
+-- and so is the error measured
+pub measured-sum : MeasuredSum
+measured-sum n block px into h long room =
+    let known : Known (modeOf block) = rw (block-says n block h) (h .known) in
+    measure-answer block px (readable block px long (h .sixteen) known)
+    ∙ ap (λ (e : ℕ). record { refusal = 0; error = e }) (read-apart block px into long (readable block into room (h .sixteen) known))
+
+-- measuring against the bytes read gives 0
 pub measured-read : MeasuredAsRead
 measured-read block px = go (eqb (readRefusal block px) 0) refl
   where
@@ -98,7 +117,9 @@ measured-read block px = go (eqb (readRefusal block px) 0) refl
     go true e =
         let z : readRefusal block px ≡ 0 = eqb-true (readRefusal block px) 0 e in
         let ok : readOf block (readInto block px) .refusal ≡ 0 = read-number block (readInto block px) ∙ read-again block px ∙ z in
-        rw (measure-answer block (readInto block px) ok, zero-apart block (readInto block px) (read-same block px (read-number block px ∙ z)), z)
+        let read : readOf block px .refusal ≡ 0 = read-number block px ∙ z in
+        let long : length (readInto block px) ≡ 48 = read-length block px ∙ read-pixels-length block px read in
+        rw (measure-answer block (readInto block px) ok, zero-apart block (readInto block px) long (read-same block px read), z)
     go false e =
         let ne : readRefusal block px ≡ 0 → ⊥ = eqb-false (readRefusal block px) 0 e in
         rw (read-leaves block px (λ z. ne (sym (read-number block px) ∙ z))) (measure-declined block px ne)

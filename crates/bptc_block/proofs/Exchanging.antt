@@ -4,9 +4,9 @@ use native.Mathlib.Omega.{arith}
 use mathlib.Core.Path.{_≡_, refl, _∙_}
 use lib.Dec.{eqb}
 use borrow.Author.Tests.{leb-true, leb-false, lt-leb, eq-eqb, ne-eqb}
+use Rattle.lists.proofs.Tests.{pick-elim}
 use Rattle.bptc.specs.Mode.{Mode}
 use Rattle.bptc.specs.Partition.{subsetOf, anchorOf}
-use Rattle.bptc.proofs.Tests.{pick-elim}
 use Rattle.bptc.proofs.PartitionRule.{Placed, placed}
 use Rattle.bptc_block.specs.declared.Fields.{Fields}
 use Rattle.bptc_block.specs.Fields.{Plain, WellFormed, indexWidth}

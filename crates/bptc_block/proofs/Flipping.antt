@@ -5,14 +5,14 @@ use mathlib.Core.Path.{_≡_, refl, sym, ap, _∙_, subst}
 use lib.Dec.{eqb}
 use lib.ListN.{getD}
 use borrow.Author.Tests.{eqb-true, eqb-false}
-use Rattle.bptc.specs.Tests.{pick}
+use Rattle.lists.specs.Tests.{pick}
+use Rattle.lists.proofs.Tests.{pick-elim}
+use Rattle.lists.proofs.Rows.{getD-each}
 use Rattle.bptc.specs.Mode.{Mode, largest}
 use Rattle.bptc.specs.Partition.{subsetOf}
 use Rattle.bptc.specs.Colour.{black, Below}
 use Rattle.bptc.specs.Shown.{pBit, endShown}
 use Rattle.bptc.specs.Palette.{paletteAt}
-use Rattle.bptc.proofs.Tests.{pick-elim}
-use Rattle.bptc.proofs.Rows.{getD-each}
 use Rattle.bptc.proofs.PartitionRule.{subset-two}
 use Rattle.bptc.proofs.SamePalette.{end-same, palette-same, palette-mirror}
 use Rattle.bptc_block.specs.declared.Fields.{Fields}

@@ -1,7 +1,3 @@
-pub mod Bits
-pub mod Bytes
-pub mod Halves
-pub mod Pairs
 pub mod Widths
 pub mod Packed
 pub mod Places
@@ -10,10 +6,9 @@ pub mod Trials
 pub mod Modes
 pub mod Flipping
 pub mod Exchanging
-pub mod WordFields
 pub mod Refusals
-pub mod Checks
 pub mod Readable
+pub mod Checks
 pub mod PackCall
 pub mod ReadCall
 pub mod RoundTrip
@@ -24,4 +19,3 @@ pub mod Merged
 pub mod Turned
 pub mod FinishCall
 pub mod Promise
-pub mod Rust

@@ -8,18 +8,18 @@ use lib.Bits.{bitOr, or-zero-l, or-zero-r}
 use lib.Dec.{eqb}
 use lib.ListN.{length, getD}
 use borrow.Author.Tests.{eqb-true, eqb-false}
+use Rattle.lists.specs.Tests.{pick}
+use Rattle.lists.specs.Rows.{upFrom}
+use Rattle.lists.specs.Bytes.{Bytes}
+use Rattle.lists.proofs.Rows.{getD-each, each-same}
 use Rattle.bptc.specs.declared.Rgb.{Rgb}
 use Rattle.bptc.specs.declared.Closest.{Closest}
-use Rattle.bptc.specs.Tests.{pick}
-use Rattle.bptc.specs.Rows.{upFrom}
-use Rattle.bptc.specs.Bytes.{Bytes}
 use Rattle.bptc.specs.Mode.{Mode, modeNumbered}
 use Rattle.bptc.specs.Partition.{subsetOf}
 use Rattle.bptc.specs.Colour.{black, coloursOf}
 use Rattle.bptc.specs.Shown.{Stored}
 use Rattle.bptc.specs.Nearest.{nearest}
 use Rattle.bptc.specs.Closest.{inSubset, closestIn}
-use Rattle.bptc.proofs.Rows.{getD-each, each-same}
 use Rattle.bptc.proofs.PartitionRule.{subset-two}
 use Rattle.bptc.proofs.ColourBounds.{pixels-shown}
 use Rattle.bptc_block.specs.declared.PBits.{PBits}

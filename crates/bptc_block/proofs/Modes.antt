@@ -4,8 +4,8 @@ use mathlib.Core.Path.{_≡_}
 use mathlib.Core.Logic.{inl, inr}
 use lib.Dec.{eqb}
 use borrow.Author.Tests.{ne-eqb}
+use Rattle.lists.proofs.Tests.{pick-elim}
 use Rattle.bptc.specs.Mode.{Mode, mode1, mode3, Known, modeNumbered}
-use Rattle.bptc.proofs.Tests.{pick-elim}
 use Rattle.bptc.proofs.Modes.{Shades, shades1, shades3}
 use Rattle.bptc_block.proofs.Packed.{Filling, filling1, filling3}
 use Rattle.bptc_block.proofs.Turns.{Turns, turns1, turns3}

@@ -8,7 +8,7 @@ use lib.Dec.{eqb, leb, le→leb, leb→le}
 use lib.ListN.{length}
 use lib.Pow.{le-ones, lt-of-le-ones}
 use borrow.Author.Tests.{eq-eqb, ne-eqb}
-use Rattle.bptc.specs.Tests.{all}
+use Rattle.lists.specs.Tests.{all}
 use Rattle.bptc.specs.Mode.{Known, modeNumbered, largest}
 use Rattle.bptc_block.specs.declared.Fields.{Fields}
 use Rattle.bptc_block.specs.Fields.{Plain}

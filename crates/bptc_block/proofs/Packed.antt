@@ -9,21 +9,20 @@ use lib.Dec.{T, eqb, eqb→eq}
 use lib.ListN.{length, getD, drop, length-drop}
 use lib.Pow.{mod-mod-pow}
 use lib.Seq.{getD-drop}
-use Rattle.bptc.specs.Tests.{all}
-use Rattle.bptc.specs.Rows.{upFrom, sum}
-use Rattle.bptc.specs.Bytes.{Bytes}
+use Rattle.lists.specs.Tests.{all}
+use Rattle.lists.specs.Rows.{upFrom, sum}
+use Rattle.lists.specs.Bytes.{Bytes, bytes, number}
+use Rattle.lists.specs.Bits.{split, join}
+use Rattle.lists.proofs.Tables.{tested, four}
+use Rattle.lists.proofs.Digits.{zeros-of, low-of}
+use Rattle.lists.proofs.Bits.{fits-length, fits-at, fits-split, split-join, join-split, join-lt}
+use Rattle.lists.proofs.Bytes.{length-bytes, bytes-bytes, bytes-number, number-bytes, number-lt}
 use Rattle.bptc.specs.Mode.{Mode, mode1, mode3}
 use Rattle.bptc.specs.Partition.{anchors, anchorOf}
 use Rattle.bptc.specs.Colour.{black, Below}
-use Rattle.bptc.proofs.Tables.{tested, four}
-use Rattle.bptc.proofs.Digits.{zeros-of, low-of}
-use Rattle.bptc_block.specs.Bits.{split, join}
-use Rattle.bptc_block.specs.Bytes.{bytes, number}
 use Rattle.bptc_block.specs.declared.Fields.{Fields}
 use Rattle.bptc_block.specs.Fields.{WellFormed, indexWidth, widths, values, made}
 use Rattle.bptc_block.specs.Packed.{packed, modeOf, partitionIn, fieldsOf}
-use Rattle.bptc_block.proofs.Bits.{fits-length, fits-at, fits-split, split-join, join-split, join-lt}
-use Rattle.bptc_block.proofs.Bytes.{length-bytes, bytes-bytes, bytes-number, number-bytes, number-lt}
 use Rattle.bptc_block.proofs.Widths.{fits-values, made-values, values-made, length-widths, width-at}
 
 -- what the layout's laws ask of a mode: its fields fill a block, whatever the partition

@@ -7,16 +7,16 @@ use mathlib.Core.Path.{_≡_, sym, ap, _∙_}
 use mathlib.Core.List.{List, [], _∷_, map}
 use lib.ListN.{getD, take, drop, replicate, getD-replicate, List·getD-append}
 use lib.Seq.{getD-drop}
+use Rattle.lists.specs.Rows.{upFrom, sum}
+use Rattle.lists.specs.Bits.{split, fieldAt}
+use Rattle.lists.specs.Bytes.{number}
+use Rattle.lists.proofs.Bits.{field, next-place, sum-take-le}
 use Rattle.bptc.specs.declared.Rgb.{Rgb}
-use Rattle.bptc.specs.Rows.{upFrom, sum}
 use Rattle.bptc.specs.Mode.{Mode}
 use Rattle.bptc.proofs.ColourBounds.{rgb-eq}
-use Rattle.bptc_block.specs.Bits.{split, fieldAt}
-use Rattle.bptc_block.specs.Bytes.{number}
 use Rattle.bptc_block.specs.declared.Fields.{Fields}
 use Rattle.bptc_block.specs.Fields.{indexWidth, widths, endAt, endFrom, made}
 use Rattle.bptc_block.specs.Packed.{partitionIn, fieldsOf}
-use Rattle.bptc_block.proofs.Bits.{field, next-place, sum-take-le}
 use Rattle.bptc_block.proofs.Widths.{width-at}
 use Rattle.bptc_block.proofs.Packed.{Filling, partition-of}
 

@@ -7,11 +7,11 @@ use mathlib.Core.List.{List}
 use lib.Dec.{eqb, ltb}
 use lib.ListN.{length, getD}
 use borrow.Author.Tests.{eqb-true, eq-eqb, ne-eqb, lt-ltb}
-use Rattle.bptc.specs.Digits.{zerosBelow}
+use Rattle.lists.specs.Digits.{zerosBelow}
+use Rattle.lists.proofs.Tests.{pick-elim}
+use Rattle.lists.proofs.Digits.{zeros-zero}
 use Rattle.bptc.specs.Mode.{Known, modeNumbered}
 use Rattle.bptc.specs.Colour.{bytesOf}
-use Rattle.bptc.proofs.Tests.{pick-elim}
-use Rattle.bptc.proofs.Digits.{zeros-zero}
 use Rattle.bptc.proofs.ColourBounds.{bytes-length}
 use Rattle.bptc_block.specs.declared.Reading.{Reading}
 use Rattle.bptc_block.specs.declared.Measured.{Measured}

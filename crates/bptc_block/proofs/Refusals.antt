@@ -10,11 +10,11 @@ use lib.Dec.{T, lit<, eqb, leb}
 use lib.ListN.{length, getD}
 use lib.Pow.{pow-pos, le-ones, lt-of-le-ones}
 use borrow.Author.Tests.{eqb-true, leb-true, le-leb}
+use Rattle.lists.specs.Tests.{pick, or, all}
+use Rattle.lists.proofs.Tests.{pick-elim, and-true}
 use Rattle.bptc.specs.declared.Rgb.{Rgb}
-use Rattle.bptc.specs.Tests.{pick, or, all}
 use Rattle.bptc.specs.Mode.{Known, modeNumbered}
 use Rattle.bptc.specs.Colour.{black, Below}
-use Rattle.bptc.proofs.Tests.{pick-elim, and-true}
 use Rattle.bptc.proofs.ColourBounds.{below-black}
 use Rattle.bptc_block.specs.declared.Candidate.{Candidate}
 use Rattle.bptc_block.specs.Refusal.{unless, isMode, within, inRange, pInRange, checkCandidate}

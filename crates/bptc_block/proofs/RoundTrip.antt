@@ -1,12 +1,16 @@
 -- The round trips: reading after packing, and packing after reading.
-use Prim.Native.Nat.{ℕ}
-use mathlib.Core.Path.{_≡_, refl, sym, ap}
+use Prim.Native.Nat.{ℕ, _<_}
+use native.Mathlib.Numerals.{add-one}
+use native.Mathlib.Omega.{arith}
+use mathlib.Core.Path.{_≡_, refl, sym, ap, _∙_}
 use mathlib.Core.Logic.{inl, inr}
 use mathlib.Core.List.{List}
-use lib.ListN.{length}
+use lib.ListN.{length, getD}
+use Rattle.lists.proofs.Rows.{each-same, getD-each}
+use Rattle.lists.proofs.Digits.{zeros-of}
 use Rattle.bptc.specs.Mode.{Mode, Known, modeNumbered, largest}
-use Rattle.bptc.specs.Colour.{black, bytesOf}
-use Rattle.bptc.proofs.Rows.{each-same}
+use Rattle.bptc.specs.Colour.{black, pixelIn, bytesOf}
+use Rattle.bptc.proofs.PixelBytes.{pixel-in}
 use Rattle.bptc_block.specs.declared.Fields.{Fields}
 use Rattle.bptc_block.specs.Fields.{Plain, WellFormed}
 use Rattle.bptc_block.specs.Packed.{packed, modeOf, fieldsOf}
@@ -14,14 +18,14 @@ use Rattle.bptc_block.specs.Chapter.{colourAt, colours}
 use Rattle.bptc_block.specs.Exchange.{compressed}
 use Rattle.bptc_block.specs.PackCall.{packOf, packInto}
 use Rattle.bptc_block.specs.ReadCall.{readingOf, readOf, readInto}
-use Rattle.bptc_block.specs.Packs.{InRange}
+use Rattle.bptc_block.specs.Ranges.{InRange}
 use Rattle.bptc_block.specs.RoundTrip.{Block, PackedAsRead, ReadAsPacked}
 use Rattle.bptc_block.proofs.Widths.{plain-of}
 use Rattle.bptc_block.proofs.Packed.{packed-length, well-formed, fields-packed, mode-packed, packed-fields}
 use Rattle.bptc_block.proofs.Modes.{lawful, own-number}
 use Rattle.bptc_block.proofs.Exchanging.{compressed-colour, compressed-formed, compressed-still}
 use Rattle.bptc_block.proofs.PackCall.{pack-block, pack-accepts}
-use Rattle.bptc_block.proofs.ReadCall.{readable, read-answer, read-pixels}
+use Rattle.bptc_block.proofs.ReadCall.{readable, read-answer, read-pixels, read-length}
 
 -- fields in range may be packed, in a mode that is one of the two
 in-range : (mode : ℕ) (f : Fields) → InRange mode f → Known mode × Plain (modeNumbered mode) f
@@ -66,32 +70,55 @@ read-packed mode f part px fit sixteen pixels =
     let (known, plain) = in-range mode f fit in
     rw (pack-block mode f part (pack-accepts mode f part sixteen known plain)) (answer mode f known plain px pixels, shows mode f known plain px pixels)
 
--- packing after reading
-module _ (block px part : List ℕ) (h : Block block) (pixels : length px ≡ 48) (sixteen : length part ≡ 16) where
-  -- the mode that the block says
-  abbrev n : ℕ
-  n = modeOf block
+-- the mode that a block's lowest bits say is the chapter's
+pub block-says : (n : ℕ) (block : List ℕ) → Block n block → modeOf block ≡ n
+unfolding modeOf
+block-says n block h = zeros-of 8 n (getD block 0 0) (small (h .known)) (rw add-one at (h .mode))
+  where
+    small : Known n → n < 8
+    small (inl e) = omega arith
+    small (inr e) = omega arith
 
-  -- the fields that it holds
+-- packing after reading
+module _ (n : ℕ) (block px part : List ℕ) (h : Block n block) (pixels : length px ≡ 48) (sixteen : length part ≡ 16) where
+  -- the fields that the block holds
   abbrev g : Fields
   g = fieldsOf (modeNumbered n) block
+
+  says : modeOf block ≡ n
+  says = block-says n block h
 
   formed : WellFormed (modeNumbered n) g
   formed = well-formed (modeNumbered n) block
 
   ok : readOf block px .refusal ≡ 0
-  ok = readable block px pixels (h .sixteen) (h .mode)
+  ok = readable block px pixels (h .sixteen) (rw says (h .known))
+
+  fields : readOf block px ≡ readingOf n g
+  fields = rw says at (read-answer block px ok)
+
+  bytes : readInto block px ≡ bytesOf (colours (modeNumbered n) g)
+  bytes = rw says at (read-pixels block px ok)
 
   accepts : packOf n g part ≡ 0
-  accepts = pack-accepts n g part sixteen (h .mode) (plain-of (modeNumbered n) g formed)
+  accepts = pack-accepts n g part sixteen (h .known) (plain-of (modeNumbered n) g formed)
 
   returns : packInto n g part ≡ block
   returns =
       rw (pack-block n g part accepts, compressed-still (modeNumbered n) g formed)
-      (packed-fields (modeNumbered n) (lawful n .filling) block (h .sixteen) (h .bytes) (sym (own-number n (h .mode))))
+      (packed-fields (modeNumbered n) (lawful n .filling) block (h .sixteen) (h .bytes) (says ∙ sym (own-number n (h .known))))
 
--- every byte returns
+  shown : (i : ℕ) → i < 16 → pixelIn (bytesOf (colours (modeNumbered n) g)) i ≡ colourAt (modeNumbered n) g i
+  unfolding colours
+  shown i l = sym (pixel-in (colours (modeNumbered n) g) i l) ∙ getD-each black (colourAt (modeNumbered n) g) 16 i l
+
+-- every field, colour and byte
 pub packed-read : PackedAsRead
-packed-read block px part h pixels sixteen =
-    let e = read-answer block px (ok block px part h pixels sixteen) in
-    (ok block px part h pixels sixteen, rw e (accepts block px part h pixels sixteen), rw e (returns block px part h pixels sixteen))
+packed-read n block px part h pixels sixteen =
+    record {
+      fields = fields n block px part h pixels sixteen;
+      long = read-length block px ∙ pixels;
+      colours = λ i l. rw (bytes n block px part h pixels sixteen) (shown n block px part h pixels sixteen i l);
+      accepted = rw (fields n block px part h pixels sixteen) (accepts n block px part h pixels sixteen);
+      again = rw (fields n block px part h pixels sixteen) (returns n block px part h pixels sixteen);
+    }

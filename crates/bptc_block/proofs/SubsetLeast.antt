@@ -8,18 +8,18 @@ use mathlib.Core.List.{List}
 use lib.Dec.{eqb}
 use lib.ListN.{getD}
 use borrow.Author.Tests.{eqb-true}
+use Rattle.lists.specs.Tests.{pick}
+use Rattle.lists.specs.Rows.{overPixels}
+use Rattle.lists.proofs.Tests.{pick-le}
+use Rattle.lists.proofs.Rows.{getD-each}
+use Rattle.lists.proofs.Sums.{pixels-same, pixels-le}
 use Rattle.bptc.specs.declared.Rgb.{Rgb}
-use Rattle.bptc.specs.Tests.{pick}
-use Rattle.bptc.specs.Rows.{overPixels}
 use Rattle.bptc.specs.Mode.{Mode, largest}
 use Rattle.bptc.specs.Partition.{subsetOf}
 use Rattle.bptc.specs.Colour.{black, distSq}
 use Rattle.bptc.specs.Palette.{paletteAt}
 use Rattle.bptc.specs.Nearest.{nearest}
 use Rattle.bptc.specs.Closest.{inSubset, closestIn}
-use Rattle.bptc.proofs.Tests.{pick-le}
-use Rattle.bptc.proofs.Rows.{getD-each}
-use Rattle.bptc.proofs.Sums.{pixels-same, pixels-le}
 use Rattle.bptc.proofs.SamePalette.{SameEnds, CrossEnds, palette-same, palette-mirror}
 use Rattle.bptc.proofs.NearestIndex.{nearest-least}
 use Rattle.bptc_block.specs.declared.Fields.{Fields}

@@ -6,15 +6,15 @@ use mathlib.Core.Bool.{Bool}
 use mathlib.Core.List.{List, [], _∷_, List·Memᴰ}
 use lib.Dec.{T, eqb, ltb, eqb→eq, ltb→lt}
 use borrow.Author.Tests.{ne-eqb}
+use Rattle.lists.specs.Tests.{and, all}
+use Rattle.lists.specs.Rows.{upFrom}
+use Rattle.lists.specs.Least.{firstLeast}
+use Rattle.lists.proofs.Tests.{and-left, and-right}
+use Rattle.lists.proofs.Tables.{tested, all-of, any, any-of}
 use Rattle.bptc.specs.declared.Rgb.{Rgb}
-use Rattle.bptc.specs.Tests.{and, all}
-use Rattle.bptc.specs.Rows.{upFrom}
-use Rattle.bptc.specs.Least.{firstLeast}
 use Rattle.bptc.specs.Mode.{Mode, mode1, mode3, modeNumbered}
 use Rattle.bptc.specs.Shown.{pBit}
 use Rattle.bptc.specs.Closest.{closestIn}
-use Rattle.bptc.proofs.Tests.{and-left, and-right}
-use Rattle.bptc.proofs.Tables.{tested, all-of, any, any-of}
 use Rattle.bptc_block.specs.Finish.{otherBits, bitsFor, joinedBits}
 
 -- the p-bits that are tried, in their order

@@ -5,12 +5,12 @@ use mathlib.Core.Path.{_≡_}
 use mathlib.Core.Bool.{Bool}
 use lib.Dec.{T, eqb, ltb, eqb→eq, ltb→lt}
 use borrow.Author.Tests.{eq-eqb, ne-eqb}
-use Rattle.bptc.specs.Tests.{and, all}
-use Rattle.bptc.specs.Rows.{upFrom}
+use Rattle.lists.specs.Tests.{and, all}
+use Rattle.lists.specs.Rows.{upFrom}
+use Rattle.lists.proofs.Tests.{pick-elim, and-left, and-right}
+use Rattle.lists.proofs.Tables.{tested}
 use Rattle.bptc.specs.Mode.{Mode, mode1, mode3, largest}
 use Rattle.bptc.specs.Shown.{pBit}
-use Rattle.bptc.proofs.Tests.{pick-elim, and-left, and-right}
-use Rattle.bptc.proofs.Tables.{tested}
 use Rattle.bptc.proofs.Largest.{top-turned}
 use Rattle.bptc_block.specs.Exchange.{exchanged, exchangedBits}
 

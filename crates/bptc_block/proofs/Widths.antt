@@ -9,18 +9,18 @@ use lib.Dec.{eqb}
 use lib.ListN.{length, getD, replicate, length-map, length-append}
 use lib.Pow.{pow-lt, pow-mono}
 use lib.Seq.{getD-drop}
+use Rattle.lists.specs.Rows.{upFrom}
+use Rattle.lists.specs.Bits.{Fits, more, join}
+use Rattle.lists.proofs.Tests.{pick-elim}
+use Rattle.lists.proofs.Rows.{getD-map, getD-each, listed}
+use Rattle.lists.proofs.Bits.{fits-append, fits-places, fits-same, join-later, join-then, join-single}
 use Rattle.bptc.specs.declared.Rgb.{Rgb}
-use Rattle.bptc.specs.Rows.{upFrom}
 use Rattle.bptc.specs.Mode.{Mode, largest}
 use Rattle.bptc.specs.Partition.{anchorOf}
 use Rattle.bptc.specs.Colour.{black, Below}
-use Rattle.bptc.proofs.Tests.{pick-elim}
 use Rattle.bptc.proofs.Largest.{largest-fits, fits-largest}
-use Rattle.bptc.proofs.Rows.{getD-map, getD-each, listed}
-use Rattle.bptc_block.specs.Bits.{Fits, more, join}
 use Rattle.bptc_block.specs.declared.Fields.{Fields}
 use Rattle.bptc_block.specs.Fields.{Plain, WellFormed, indexWidth, channelValues, frontWidths, frontValues, widths, values, made}
-use Rattle.bptc_block.proofs.Bits.{fits-append, fits-places, fits-same, join-later, join-then, join-single}
 
 -- indices in range, with the top bit 0 at pixel 0 and at the anchor, fit their widths
 pub index-fits :

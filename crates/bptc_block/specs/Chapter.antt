@@ -2,8 +2,8 @@
 use Prim.Native.Nat.{ℕ}
 use mathlib.Core.List.{List, map}
 use lib.ListN.{getD}
+use Rattle.lists.specs.Rows.{upFrom, overPixels}
 use Rattle.bptc.specs.declared.Rgb.{Rgb}
-use Rattle.bptc.specs.Rows.{upFrom, overPixels}
 use Rattle.bptc.specs.Mode.{Mode, modeNumbered}
 use Rattle.bptc.specs.Partition.{subsetOf}
 use Rattle.bptc.specs.Colour.{black, coloursOf, distSq}

@@ -1,14 +1,13 @@
 -- The list of refusals in plain numbers.
-use Prim.Native.Nat.{ℕ, _≤_, _<_}
+use Prim.Native.Nat.{ℕ, _%_, _≤_, _<_}
 use mathlib.Core.Path.{_≡_}
+use mathlib.Core.Logic.{_⊎_}
 use mathlib.Core.List.{List}
 use lib.ListN.{getD, length}
-use Rattle.bptc.specs.Mode.{Known}
 use Rattle.bptc.specs.Colour.{black, Below}
 use Rattle.bptc_block.specs.declared.PBits.{PBits}
 use Rattle.bptc_block.specs.declared.PBits.the-variants.{Free, Fixed}
 use Rattle.bptc_block.specs.declared.Candidate.{Candidate}
-use Rattle.bptc_block.specs.Packed.{modeOf}
 
 -- no check is left
 abbrev pub NotDeclined : ℕ → Type 0
@@ -40,7 +39,7 @@ BlockChecked block Later = Check 2 (length block ≡ 16) Later
 -- fixed p-bits are at most 3 in mode 1 and 15 in mode 3
 abbrev pub CandidateChecked : Candidate → (ℕ → Type 0) → ℕ → Type 0
 CandidateChecked c Later =
-    Check 3 (Known (c .mode))
+    Check 3 ((c .mode ≡ 1) ⊎ (c .mode ≡ 3))
     (Check 4 (c .partition ≤ 63)
     (Check 5 (InMode (c .mode) (λ (top : ℕ). (k : ℕ) → k < length (c .ends) → Below top (getD (c .ends) k black)) 64 128)
     (Check 6 (InMode (c .mode) (λ (top : ℕ). BitsWithin top (c .p)) 4 16) Later)))
@@ -49,6 +48,8 @@ CandidateChecked c Later =
 abbrev pub IndicesChecked : ℕ → List ℕ → (ℕ → Type 0) → ℕ → Type 0
 IndicesChecked mode is Later = Check 7 (InMode mode (λ (top : ℕ). (i : ℕ) → i < length is → getD is i 0 < top) 8 4) Later
 
--- 8 and 9: byte 0 of the block to be read is not zero, and the block has mode 1 or 3
+-- 8 and 9: byte 0 of the block to be read is not zero, and its lowest bits are 10, which is mode 1, or 1000, which is mode 3
 abbrev pub ReadableChecked : List ℕ → (ℕ → Type 0) → ℕ → Type 0
-ReadableChecked block Later = Check 8 (0 < getD block 0 0) (Check 9 (Known (modeOf block)) Later)
+ReadableChecked block Later =
+    Check 8 (0 < getD block 0 0)
+    (Check 9 ((getD block 0 0 % 4 ≡ 2) ⊎ (getD block 0 0 % 16 ≡ 8)) Later)

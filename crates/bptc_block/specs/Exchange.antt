@@ -4,10 +4,10 @@ use mathlib.Core.Bool.{Bool}
 use mathlib.Core.List.{List, [], _∷_, map}
 use lib.Dec.{leb, eqb}
 use lib.ListN.{getD}
+use Rattle.lists.specs.Tests.{pick}
+use Rattle.lists.specs.Rows.{upFrom, sum}
+use Rattle.lists.specs.Digits.{bit}
 use Rattle.bptc.specs.declared.Rgb.{Rgb}
-use Rattle.bptc.specs.Tests.{pick}
-use Rattle.bptc.specs.Rows.{upFrom, sum}
-use Rattle.bptc.specs.Digits.{bit}
 use Rattle.bptc.specs.Mode.{Mode, largest}
 use Rattle.bptc.specs.Partition.{subsetOf, anchorOf}
 use Rattle.bptc.specs.Colour.{black}

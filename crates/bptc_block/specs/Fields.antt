@@ -4,9 +4,10 @@ use mathlib.Core.Path.{_≡_}
 use mathlib.Core.List.{List, _∷_, _++_, map}
 use lib.Dec.{eqb}
 use lib.ListN.{getD, length, drop, replicate}
+use Rattle.lists.specs.Tests.{pick}
+use Rattle.lists.specs.Rows.{upFrom}
+use Rattle.lists.specs.Bits.{fieldAt, split}
 use Rattle.bptc.specs.declared.Rgb.{Rgb}
-use Rattle.bptc.specs.Tests.{pick}
-use Rattle.bptc.specs.Rows.{upFrom}
 use Rattle.bptc.specs.Mode.{Mode, largest}
 use Rattle.bptc.specs.Partition.{anchorOf}
 use Rattle.bptc.specs.Colour.{black, Below}
@@ -15,7 +16,6 @@ use Rattle.bptc_block.specs.declared.Fields.{Fields}
 use Rattle.bptc_block.specs.declared.Words.{Words}
 use Rattle.bptc_block.specs.declared.PBits.{PBits}
 use Rattle.bptc_block.specs.declared.PBits.the-variants.{Free, Fixed}
-use Rattle.bptc_block.specs.Bits.{fieldAt, split}
 
 -- an index has a bit less at pixel 0 and at the anchor of subset 1
 abbrev pub indexWidthBy : ℕ → ℕ → ℕ → ℕ

@@ -3,10 +3,10 @@ use Prim.Native.Nat.{ℕ, _+_, _*_, _/_, _%_, _^_}
 use mathlib.Core.List.{List, [], _∷_, map}
 use lib.Dec.{eqb}
 use lib.ListN.{getD}
+use Rattle.lists.specs.Tests.{pick}
+use Rattle.lists.specs.Rows.{upFrom}
+use Rattle.lists.specs.Least.{firstLeast}
 use Rattle.bptc.specs.declared.Rgb.{Rgb}
-use Rattle.bptc.specs.Tests.{pick}
-use Rattle.bptc.specs.Rows.{upFrom}
-use Rattle.bptc.specs.Least.{firstLeast}
 use Rattle.bptc.specs.Mode.{Mode, modeNumbered}
 use Rattle.bptc.specs.Partition.{subsetOf}
 use Rattle.bptc.specs.Colour.{black, coloursOf}
@@ -19,7 +19,7 @@ use Rattle.bptc_block.specs.declared.Fields.{Fields}
 use Rattle.bptc_block.specs.Packed.{packed}
 use Rattle.bptc_block.specs.Chapter.{apart}
 use Rattle.bptc_block.specs.Exchange.{compressed}
-use Rattle.bptc_block.specs.Rust.Compressed.{Compressed}
+use Rattle.bptc_block.specs.Compressed.{Compressed}
 
 -- The p-bits that are tried after 0, alike in both subsets, in the order of ALL. Mode 1: the one bit of a subset.
 -- Mode 3: the bit of the upper endpoint, that of the lower one, and both, for ALL has the lower endpoint's bit first.

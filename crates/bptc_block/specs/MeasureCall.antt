@@ -2,7 +2,7 @@
 use Prim.Native.Nat.{ℕ}
 use mathlib.Core.List.{List}
 use lib.Dec.{eqb}
-use Rattle.bptc.specs.Tests.{pick}
+use Rattle.lists.specs.Tests.{pick}
 use Rattle.bptc_block.specs.declared.Measured.{Measured}
 use Rattle.bptc_block.specs.Chapter.{distance}
 use Rattle.bptc_block.specs.ReadCall.{readRefusal}

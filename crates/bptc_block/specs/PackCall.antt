@@ -3,7 +3,7 @@ use Prim.Native.Nat.{ℕ}
 use mathlib.Core.List.{List}
 use lib.Dec.{eqb}
 use lib.ListN.{length}
-use Rattle.bptc.specs.Tests.{pick}
+use Rattle.lists.specs.Tests.{pick}
 use Rattle.bptc.specs.Mode.{Mode, modeNumbered}
 use Rattle.bptc_block.specs.declared.PBits.the-variants.{Fixed}
 use Rattle.bptc_block.specs.declared.Candidate.{Candidate}

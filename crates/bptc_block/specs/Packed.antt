@@ -2,10 +2,10 @@
 use Prim.Native.Nat.{ℕ, _+_, _/_, _%_, _^_}
 use mathlib.Core.List.{List}
 use lib.ListN.{getD}
-use Rattle.bptc.specs.Digits.{zerosBelow}
+use Rattle.lists.specs.Digits.{zerosBelow}
+use Rattle.lists.specs.Bits.{split, join}
+use Rattle.lists.specs.Bytes.{bytes, number}
 use Rattle.bptc.specs.Mode.{Mode}
-use Rattle.bptc_block.specs.Bits.{split, join}
-use Rattle.bptc_block.specs.Bytes.{bytes, number}
 use Rattle.bptc_block.specs.declared.Fields.{Fields}
 use Rattle.bptc_block.specs.Fields.{widths, values, made}
 

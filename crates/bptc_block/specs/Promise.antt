@@ -3,7 +3,7 @@ use Prim.Native.Nat.{ℕ, _≤_}
 use mathlib.Core.Path.{_≡_}
 use mathlib.Core.List.{List}
 use lib.ListN.{length}
-use Rattle.bptc.specs.Bytes.{Bytes}
+use Rattle.lists.specs.Bytes.{Bytes}
 use Rattle.bptc_block.specs.declared.Candidate.{Candidate}
 use Rattle.bptc_block.specs.Chapter.{distance}
 use Rattle.bptc_block.specs.Allowed.{Allowed}

@@ -4,8 +4,8 @@ use mathlib.Core.Bool.{Bool, true, false}
 use mathlib.Core.List.{List}
 use lib.Dec.{ltb, leb, eqb}
 use lib.ListN.{getD}
+use Rattle.lists.specs.Tests.{and, or, all}
 use Rattle.bptc.specs.declared.Rgb.{Rgb}
-use Rattle.bptc.specs.Tests.{and, or, all}
 use Rattle.bptc.specs.Mode.{Mode, modeNumbered, largest}
 use Rattle.bptc_block.specs.declared.PBits.{PBits}
 use Rattle.bptc_block.specs.declared.PBits.the-variants.{Free, Fixed}

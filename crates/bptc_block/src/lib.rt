@@ -1,5 +1,5 @@
 // What a block of modes 1 and 3 holds, and the answers of the calls. This crate has no code: its specs/ are the chapter's layout and
-// reading, the refusals and the Rust's steps that make a block, and its proofs/ the laws about them.
+// reading, the refusals and finishing, and its proofs/ the laws about them.
 use bptc::Rgb;
 
 // Partition, stored endpoints, p-bits as one number, and the sixteen full indices.

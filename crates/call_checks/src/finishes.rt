@@ -64,7 +64,19 @@ fn put_finished(label: &[u8], pixels: &[u8], c: Candidate) {
     line();
 }
 
-// P1 to P7.
+// Sixteen pixels of red 2, green 4 and blue 8.
+fn coloured() -> [u8; 48] {
+    let one = [2u8, 4, 8];
+    let mut out = [0u8; 48];
+    let mut i: usize = 0;
+    while i < 48 {
+        out[i] = one[i % 3];
+        i += 1;
+    }
+    out
+}
+
+// P1 to P7, and pixels with three different channels.
 pub(crate) fn put_worked() {
     let black = [0u8; 48];
     let white = [255u8; 48];
@@ -80,6 +92,9 @@ pub(crate) fn put_worked() {
     put_finished(b"P5", &black, proposal(3, 0, top3, PBits::Fixed(1)));
     put_finished(b"P6", &twos, proposal(1, 0, zero, PBits::Free));
     put_finished(b"P7", &ones, proposal(1, 0, zero, PBits::Free));
+    let colour = coloured();
+    let own = Rgb { r: 1, g: 2, b: 4 };
+    put_finished(b"RGB", &colour, proposal(3, 0, [own; 4], PBits::Fixed(0)));
 }
 
 // Pixels of one grey, with every channel 0 and with every channel the greatest, p-bits fixed and free.

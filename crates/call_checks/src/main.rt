@@ -2,10 +2,10 @@
 mod chooses;
 mod finishes;
 mod inputs;
-mod lists;
 mod out;
 mod packs;
 mod reads;
+mod sequences;
 
 // The examples, one after the other.
 fn main() {
@@ -40,7 +40,7 @@ fn main() {
     chooses::put_accepted();
     chooses::put_made_up(0);
     chooses::put_made_up(4294967295);
-    lists::put_lists();
-    lists::put_orders(2);
-    lists::put_orders(4);
+    sequences::put_lists();
+    sequences::put_orders(2);
+    sequences::put_orders(4);
 }

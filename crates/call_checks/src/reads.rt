@@ -7,6 +7,7 @@ use crate::inputs::fill;
 use crate::out::line;
 use crate::out::put;
 use crate::out::put_byte;
+use crate::out::put_part;
 use crate::out::put_word;
 use crate::out::say;
 use block::Reading;
@@ -22,6 +23,23 @@ struct Tried {
     kept: bool,
 }
 
+// All fields of a reading: mode, partition, the channels of its endpoints, p-bits and indices.
+fn put_fields(r: Reading) {
+    let ends = r.ends;
+    let a = ends[0];
+    let b = ends[1];
+    let c = ends[2];
+    let d = ends[3];
+    let channels = [a.r, a.g, a.b, b.r, b.g, b.b, c.r, c.g, c.b, d.r, d.g, d.b];
+    let indices = r.indices;
+    say(b" fields");
+    put_byte(r.mode);
+    put_byte(r.partition);
+    put_part(&channels);
+    put_byte(r.p);
+    put_part(&indices);
+}
+
 // A block read into a lent part, and measured against what that then holds.
 fn put_read(part: &[u8], pixels: &mut [u8]) {
     fill(pixels);
@@ -30,6 +48,7 @@ fn put_read(part: &[u8], pixels: &mut [u8]) {
     say(b"read");
     put_byte(r.refusal);
     put(changed(pixels) as u64);
+    put_fields(r);
     say(b" measured");
     put_byte(m.refusal);
     put_word(m.error);

@@ -6,9 +6,9 @@ use mathlib.Core.List.{List}
 use lib.Dec.{eqb}
 use lib.ListN.{length, replicate}
 use borrow.Author.Tests.{eqb-true, eq-eqb, ne-eqb}
-use Rattle.bptc.specs.Bytes.{Bytes}
-use Rattle.bptc.proofs.Tests.{pick-elim}
-use Rattle.bptc.proofs.Bytes.{zero-bytes}
+use Rattle.lists.specs.Bytes.{Bytes}
+use Rattle.lists.proofs.Tests.{pick-elim}
+use Rattle.lists.proofs.Bytes.{zero-bytes}
 use Rattle.bptc_block.specs.declared.Candidate.{Candidate}
 use Rattle.bptc_block.specs.declared.Finished.{Finished}
 use Rattle.bptc_block.specs.FinishCall.{finishOf, finishInto}

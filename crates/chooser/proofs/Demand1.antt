@@ -14,7 +14,7 @@ use Rattle.bptc_block.proofs.FinishCall.{finish-number, finish-checked, finish-
 use Rattle.chooser.specs.declared.Offered.{Offered}
 use Rattle.chooser.specs.declared.Took.{Took}
 use Rattle.chooser.specs.Demand1.{Demand1}
-use Rattle.chooser.proofs.Calls.{start-answer, started-black, offer-number, offer-declined, take-number, take-answer, take-declined, take-leaves, take-keeps}
+use Rattle.chooser.proofs.Calls.{start-answer, started-own, started-black, offer-number, offer-declined, take-number, take-answer, take-declined, take-leaves, take-keeps}
 
 pub demand1 : Demand1
 demand1 =
@@ -54,5 +54,6 @@ demand1 =
             checked = subst (PixelsChecked px (BlockChecked block (ReadableChecked block NotDeclined))) (sym (measure-number block px)) (read-checked block px);
             left = λ ne. ap (λ (a : Measured). a .error) (measure-declined block px (λ e. ne (measure-number block px ∙ e)));
           };
+      starts = λ px own. rw (start-answer px, started-own px own);
       keeps = take-keeps;
     }

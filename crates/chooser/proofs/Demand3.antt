@@ -8,11 +8,11 @@ use mathlib.Core.List.{List, [], _∷_, List·Memᴰ, List·Memᴰ·head, List·
 use lib.Dec.{eqb, leb}
 use lib.ListN.{length}
 use borrow.Author.Tests.{lt-leb}
-use Rattle.bptc.specs.Tests.{pick}
-use Rattle.bptc.specs.Bytes.{Bytes}
-use Rattle.bptc.specs.Least.{firstLeast}
-use Rattle.bptc.proofs.Tests.{pick-map}
-use Rattle.bptc.proofs.Least.{least-none, least-next, least-all, least-keeps, earliest}
+use Rattle.lists.specs.Tests.{pick}
+use Rattle.lists.specs.Bytes.{Bytes}
+use Rattle.lists.specs.Least.{firstLeast}
+use Rattle.lists.proofs.Tests.{pick-map}
+use Rattle.lists.proofs.Least.{least-none, least-next, least-all, least-keeps, earliest}
 use Rattle.bptc_block.specs.declared.Candidate.{Candidate}
 use Rattle.bptc_block.specs.Promise.{FinishPromise}
 use Rattle.chooser.specs.declared.Chooser.{Chooser}
@@ -23,7 +23,7 @@ use Rattle.chooser.specs.StartCall.{emptyOver, startedOver, startOf}
 use Rattle.chooser.specs.OfferCall.{offerRefusal, finishGives, kept, accepting}
 use Rattle.chooser.specs.Calls.{Call, offer, take, after, accepted, held}
 use Rattle.chooser.specs.Demand3.{Promise, SomeAccepted, FourEnds, Demand3, BeforeAny}
-use Rattle.chooser.proofs.Calls.{start-answer, started-bytes, started-length, offer-cases, gives-keeps, take-keeps, held-kept}
+use Rattle.chooser.proofs.Calls.{start-answer, started-own, started-black, started-bytes, started-length, offer-cases, gives-keeps, take-keeps, held-kept}
 
 -- accepted offers one after the other, from a chooser to the one after them
 data AcceptedOffers : Chooser → List Candidate → Chooser → Type 0 where
@@ -60,6 +60,7 @@ module _ (px part : List ℕ) (sixteen : length part ≡ 16) where
 
   -- from an empty chooser on: the first accepted candidate is kept, since its error is below that of `invalid`
   promise : {end : Chooser} (cs : List Candidate) → AcceptedOffers (emptyOver px) cs end → length px ≡ 48 → Bytes px → FourEnds cs → SomeAccepted cs → Promise px cs (held end part)
+  unfolding finishGives
   promise [] all long bytes four some = absurd (some refl)
   promise {end} (c ∷ cs) (more ok rest) long bytes four some =
       let promised : (d : Candidate) → List·Memᴰ d (c ∷ cs) → FinishPromise px d (finishGives px d .block) (error d) =
@@ -73,7 +74,8 @@ module _ (px part : List ℕ) (sixteen : length part ≡ 16) where
         exact = promised w won .exact;
         winner = w;
         earliest = earliest error cs c;
-        finished = refl;
+        block = refl;
+        error = refl;
         closest = λ d m block a. le-trans (least-all error cs c m) (promised d m .closest block a);
         allowed = promised w won .allowed;
       }
@@ -84,7 +86,9 @@ demand3 px calls part bytes four some sixteen =
     let ch : Chooser = startOf px .chooser in
     let all : AcceptedOffers (emptyOver (startedOver px)) (accepted ch calls) (after ch calls) =
     subst (λ (s : Started). AcceptedOffers (s .chooser) (accepted ch calls) (after ch calls)) (start-answer px) (accepted-offers calls ch) in
-    promise (startedOver px) part sixteen (accepted ch calls) all (started-length px) (started-bytes px bytes) four some
+    let over : Promise (startedOver px) (accepted ch calls) (held (after ch calls) part) =
+    promise (startedOver px) part sixteen (accepted ch calls) all (started-length px) (started-bytes px bytes) four some in
+    (λ own. rw (started-own px own) at over, λ other. rw (started-black px other) at over)
 
 -- before that
 pub before-any : BeforeAny

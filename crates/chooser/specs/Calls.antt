@@ -2,9 +2,9 @@
 use Prim.Native.Nat.{ℕ}
 use mathlib.Core.List.{List, [], _∷_}
 use lib.Dec.{eqb}
-use Rattle.bptc.specs.Tests.{pick}
+use Rattle.lists.specs.Tests.{pick}
 use Rattle.bptc_block.specs.declared.Candidate.{Candidate}
-use Rattle.bptc_block.specs.Rust.Compressed.{Compressed}
+use Rattle.bptc_block.specs.Compressed.{Compressed}
 use Rattle.chooser.specs.declared.Chooser.{Chooser}
 use Rattle.chooser.specs.OfferCall.{offerOf}
 use Rattle.chooser.specs.TakeCall.{takeOf, takeInto}

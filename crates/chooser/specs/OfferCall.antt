@@ -3,10 +3,10 @@ use Prim.Native.Nat.{ℕ}
 use mathlib.Core.List.{List}
 use lib.Dec.{eqb}
 use lib.ListN.{replicate}
-use Rattle.bptc.specs.Tests.{pick}
+use Rattle.lists.specs.Tests.{pick}
 use Rattle.bptc_block.specs.declared.Candidate.{Candidate}
 use Rattle.bptc_block.specs.Refusal.{checkCandidate}
-use Rattle.bptc_block.specs.Rust.Compressed.{Compressed}
+use Rattle.bptc_block.specs.Compressed.{Compressed}
 use Rattle.bptc_block.specs.FinishCall.{finishOf, finishInto}
 use Rattle.chooser.specs.declared.Chooser.{Chooser}
 use Rattle.chooser.specs.declared.Offered.{Offered}

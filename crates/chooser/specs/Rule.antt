@@ -1,8 +1,8 @@
 -- The rule of choosing: what an empty chooser holds, and which of two blocks is kept.
 use lib.Dec.{leb}
 use lib.ListN.{replicate}
-use Rattle.bptc.specs.Tests.{pick}
-use Rattle.bptc_block.specs.Rust.Compressed.{Compressed}
+use Rattle.lists.specs.Tests.{pick}
+use Rattle.bptc_block.specs.Compressed.{Compressed}
 
 -- Compressed::invalid: sixteen zero bytes with the largest error
 abbrev pub invalid : Compressed

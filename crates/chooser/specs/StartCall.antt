@@ -3,7 +3,7 @@ use Prim.Native.Nat.{ℕ}
 use mathlib.Core.List.{List}
 use lib.Dec.{eqb}
 use lib.ListN.{length, replicate}
-use Rattle.bptc.specs.Tests.{pick}
+use Rattle.lists.specs.Tests.{pick}
 use Rattle.bptc_block.specs.Refusal.{checkPixels}
 use Rattle.chooser.specs.declared.Chooser.{Chooser}
 use Rattle.chooser.specs.declared.Started.{Started}

@@ -1,5 +1,5 @@
 // `bc7 help`.
-use crate::said::say;
+use plates::said::say;
 
 // The commands, a line each.
 pub(crate) fn help() {

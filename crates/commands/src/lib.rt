@@ -1,29 +1,20 @@
 // The commands of `bc7`. They read and write files and standard output, of which no contract can speak; what they compute stands in
 // the crates below.
 mod baking;
-mod compared;
 mod help;
-mod inputs;
-mod mapping;
-mod measuring;
-mod output;
-mod photo;
-mod plate;
-mod progress;
 mod proposing;
-mod reading;
-mod report;
-mod said;
-mod showing;
-mod table;
 
 ghost use mathlib.Core.Path.{_≡_};
 ghost use Prim.Native.Nat.{_<_, _≤_};
-use crate::measuring::MOST;
-use crate::measuring::Shown;
-use crate::said::fail;
 use check::same;
 use groups::SIDE;
+use plates::mapping;
+use plates::measuring;
+use plates::measuring::MOST;
+use plates::measuring::Shown;
+use plates::reading;
+use plates::said::fail;
+use plates::showing;
 use text::decimal::Parsed;
 use text::decimal::number;
 use text::words::word;

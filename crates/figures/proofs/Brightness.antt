@@ -1,8 +1,8 @@
 -- Laws of the shades of an error map.
-use Prim.Native.Nat.{ℕ, _+_, _-_, _*_, _/_, _≤_, _<_, min}
+use Prim.Native.Nat.{ℕ, zero, suc, _+_, _-_, _*_, _/_, _≤_, _<_, min}
 use native.Mathlib.Nat.{div-eq-of-lt, div-eq-of-lt-le, le-div-iff-mul-le, div-mul-le-self}
 use native.Mathlib.Omega.{arith}
-use mathlib.Core.Path.{_≡_, ap, _∙_}
+use mathlib.Core.Path.{_≡_, refl, ap, _∙_}
 use borrow.Author.Tests.{ne-eqb}
 use Rattle.figures.specs.Shade.{shadeOf, ShadesRise}
 
@@ -37,11 +37,17 @@ module _ (worst : ℕ) (some : 0 < worst) where
   unfolding steps
   some-step error h = le-div-iff-mul-le some .1 (omega arith)
 
--- below a worst error that is not 0
+-- an error of 0
+none-black : (worst : ℕ) → shadeOf 0 worst ≡ 0
+unfolding shadeOf
+none-black zero = refl
+none-black (suc n) = shade-steps (suc n) (omega arith) 0 ∙ ap (min 255) (none (suc n) (omega arith))
+
+-- below every worst error
 pub shades-rise : ShadesRise
-shades-rise worst some = record {
-  black = shade-steps worst some 0 ∙ ap (min 255) (none worst some);
-  seen = λ error h. rw (shade-steps worst some error) (omega (arith, some-step worst some error h));
-  white = shade-steps worst some worst ∙ ap (min 255) (all worst some);
-  rising = λ a b h. rw (shade-steps worst some a, shade-steps worst some b) (omega (arith, steps-rise worst some a b h));
+shades-rise worst = record {
+  black = none-black worst;
+  seen = λ some error h. rw (shade-steps worst some error) (omega (arith, some-step worst some error h));
+  white = λ some. shade-steps worst some worst ∙ ap (min 255) (all worst some);
+  rising = λ some a b h. rw (shade-steps worst some a, shade-steps worst some b) (omega (arith, steps-rise worst some a b h));
 }

@@ -8,7 +8,7 @@ use mathlib.Core.List.{List, [], _∷_, _++_}
 use lib.Dec.{eqb}
 use lib.ListN.{length, getD, take, drop, set, replicate, length-replicate}
 use lib.Seq.{take-all}
-use Rattle.bptc.specs.Tests.{pick}
+use Rattle.lists.specs.Tests.{pick}
 use Rattle.figures.specs.Worst.{inserted, insertedAll, Descending, times, HoldsGreatest}
 
 -- one place passed: the greater key stays, and the lesser is carried on

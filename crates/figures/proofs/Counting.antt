@@ -9,8 +9,8 @@ use lib.Dec.{ltb}
 use lib.ListN.{length, getD, length-append, List·getD-append}
 use lib.Seq.{getD-append-seam}
 use borrow.Author.Tests.{ltb-true, ltb-false}
-use Rattle.bptc.specs.Rows.{sum}
-use Rattle.bptc.specs.Tests.{pick}
+use Rattle.lists.specs.Rows.{sum}
+use Rattle.lists.specs.Tests.{pick}
 use Rattle.figures.specs.declared.Figures.{Figures}
 use Rattle.figures.specs.Figures.{noneYet, countedOf, countedAll, FirstWorst, CountsAll, CountsRows}
 

@@ -8,10 +8,10 @@ use mathlib.Core.List.{List, [], _∷_, _++_, map}
 use lib.Dec.{eqb}
 use lib.ListN.{length, getD, length-map}
 use borrow.Author.Tests.{eqb-true, eqb-false}
-use Rattle.bptc.specs.Rows.{upFrom}
-use Rattle.bptc.specs.Tests.{pick}
-use Rattle.bptc.proofs.Rows.{each-suc, length-upFrom}
-use Rattle.bptc.proofs.Tests.{pick-elim, pick-map}
+use Rattle.lists.specs.Rows.{upFrom}
+use Rattle.lists.specs.Tests.{pick}
+use Rattle.lists.proofs.Rows.{each-suc, length-upFrom}
+use Rattle.lists.proofs.Tests.{pick-elim, pick-map}
 use Rattle.figures.specs.declared.row.Row.{Row}
 use Rattle.figures.specs.Row.{firstFrom, firstOf, further, FirstRefusal, RowIsFirst}
 

@@ -5,10 +5,10 @@ use mathlib.Core.Path.{_≡_, refl, ap, _∙_}
 use mathlib.Core.List.{List, _∷_, _++_, map}
 use lib.ListN.{length, drop, replicate}
 use borrow.Rule.Slice.PartMut.{putMid}
-use Rattle.bptc.specs.Rows.{upFrom}
-use Rattle.bptc.specs.Parts.{partAt}
-use Rattle.bptc.proofs.Rows.{each-same}
-use Rattle.bptc.proofs.Parts.{Wide, part-length, joined-at, joined-next, joined-rest, joined-all}
+use Rattle.lists.specs.Rows.{upFrom}
+use Rattle.lists.specs.Parts.{partAt}
+use Rattle.lists.proofs.Rows.{each-same}
+use Rattle.lists.proofs.Parts.{Wide, part-length, joined-at, joined-next, joined-rest, joined-all}
 use Rattle.bptc_block.specs.declared.Measured.{Measured}
 use Rattle.bptc_block.specs.ReadCall.{readOf, readInto}
 use Rattle.bptc_block.specs.MeasureCall.{measureOf}

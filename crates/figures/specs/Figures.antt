@@ -4,8 +4,8 @@ use mathlib.Core.Path.{_≡_}
 use mathlib.Core.List.{List, [], _∷_, _++_}
 use lib.Dec.{ltb}
 use lib.ListN.{length, getD}
-use Rattle.bptc.specs.Rows.{sum}
-use Rattle.bptc.specs.Tests.{pick}
+use Rattle.lists.specs.Rows.{sum}
+use Rattle.lists.specs.Tests.{pick}
 use Rattle.figures.specs.declared.Figures.{Figures}
 
 -- the figures of no blocks

@@ -4,9 +4,9 @@ use mathlib.Core.Path.{_≡_}
 use mathlib.Core.List.{List, [], _∷_, map}
 use lib.Dec.{eqb}
 use lib.ListN.{length, getD, replicate}
-use Rattle.bptc.specs.Rows.{upFrom}
-use Rattle.bptc.specs.Parts.{partAt, joined}
-use Rattle.bptc.specs.Tests.{pick}
+use Rattle.lists.specs.Rows.{upFrom}
+use Rattle.lists.specs.Parts.{partAt, joined}
+use Rattle.lists.specs.Tests.{pick}
 use Rattle.bptc_block.specs.declared.Measured.{Measured}
 use Rattle.bptc_block.specs.ReadCall.{readRefusal, readInto}
 use Rattle.bptc_block.specs.MeasureCall.{measureOf}

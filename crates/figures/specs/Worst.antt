@@ -5,7 +5,7 @@ use mathlib.Core.List.{List, [], _∷_}
 use mathlib.Core.Logic.{_⊎_}
 use lib.Dec.{ltb, eqb}
 use lib.ListN.{length, getD, take, replicate}
-use Rattle.bptc.specs.Tests.{pick}
+use Rattle.lists.specs.Tests.{pick}
 
 -- the key of a block: 32 bits of its error, 24 of its number counted down, a bit of its mode, 6 of its partition, and 1 more
 abbrev pub keyOf : ℕ → ℕ → ℕ → ℕ → ℕ

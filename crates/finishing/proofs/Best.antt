@@ -6,11 +6,13 @@ use mathlib.Core.List.{List, [], _∷_}
 use lib.Dec.{leb}
 use lib.ListN.{length, take, getD}
 use lib.Seq.{take-suc}
+use Rattle.lists.specs.Tests.{pick}
+use Rattle.lists.specs.Bytes.{Bytes}
+use Rattle.lists.specs.Least.{firstLeast}
+use Rattle.lists.proofs.Tests.{pick-map}
+use Rattle.lists.proofs.Least.{least-none, least-next, least-append}
 use Rattle.bptc.specs.declared.Rgb.{Rgb}
 use Rattle.bptc.specs.declared.Closest.{Closest}
-use Rattle.bptc.specs.Tests.{pick}
-use Rattle.bptc.specs.Bytes.{Bytes}
-use Rattle.bptc.specs.Least.{firstLeast}
 use Rattle.bptc.specs.Mode.{Mode}
 use Rattle.bptc.specs.Partition.{maskOf}
 use Rattle.bptc.specs.Colour.{coloursOf}
@@ -18,8 +20,6 @@ use Rattle.bptc.specs.Palette.{palettes}
 use Rattle.bptc.specs.Pixels.{pixelWords, membersOf}
 use Rattle.bptc.specs.Closest.{closestOf, closestIn}
 use Rattle.bptc.specs.Keys.{raisesOf}
-use Rattle.bptc.proofs.Tests.{pick-map}
-use Rattle.bptc.proofs.Least.{least-none, least-next, least-append}
 use Rattle.bptc.proofs.Marked.{raises-at}
 use Rattle.bptc.proofs.ClosestSubset.{closest-subset}
 use Rattle.bptc_block.specs.declared.PBits.{PBits}

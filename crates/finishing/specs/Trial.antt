@@ -4,9 +4,9 @@ use mathlib.Core.Path.{_≡_}
 use mathlib.Core.List.{List, []}
 use lib.Dec.{leb}
 use lib.ListN.{getD}
+use Rattle.lists.specs.Tests.{pick}
+use Rattle.lists.specs.Least.{firstLeast}
 use Rattle.bptc.specs.declared.Rgb.{Rgb}
-use Rattle.bptc.specs.Tests.{pick}
-use Rattle.bptc.specs.Least.{firstLeast}
 use Rattle.bptc.specs.Mode.{Mode}
 use Rattle.bptc.specs.Palette.{palettes}
 use Rattle.bptc.specs.Closest.{closestOf, closestIn}

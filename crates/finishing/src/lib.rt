@@ -4,7 +4,7 @@ ghost use Prim.Native.Nat.{_<_};
 ghost use mathlib.Core.List.{map};
 ghost use lib.Bits.{bitOr};
 ghost use lib.ListN.{getD, length};
-ghost use Rattle.bptc.specs.Rows.{upFrom};
+ghost use Rattle.lists.specs.Rows.{upFrom};
 ghost use Rattle.bptc.specs.Mode.{modeNumbered};
 ghost use Rattle.bptc.specs.Colour.{coloursOf};
 ghost use Rattle.bptc.specs.Shown.{Stored};
@@ -17,10 +17,10 @@ use bptc::Rgb;
 use bptc_block::Candidate;
 use bptc_block::Fields;
 use bptc_block::PBits;
-use palette::pixels::members;
-use palette::pixels::pixel_words;
-use palette::pixels::raises;
 use palette::table::mask;
+use search::pixels::members;
+use search::pixels::pixel_words;
+use search::pixels::raises;
 
 mod trial;
 

@@ -7,9 +7,9 @@ ghost use Rattle.finishing.specs.Trial.{triedAt, betterOf, bestOf, picke
 use bptc::Closest;
 use bptc::Rgb;
 use bptc_block::PBits;
-use palette::Mode1;
-use palette::Mode3;
 use palette::palettes::palettes;
+use search::mode1;
+use search::mode3;
 
 // The p-bits that are tried after 0 in mode 1: the bit of each subset.
 const SHARED: [u8; 1] = [0b11];
@@ -29,7 +29,8 @@ pub struct Subsets {
     pub second: Found,
 }
 
-// Both subsets at the same p-bits. Requires endpoints within the mode's width, and what `raises` gives for the pixels.
+// Both subsets at the same p-bits. The mode is told apart once for both: a search that takes its number runs at widths that the
+// compiler does not know. Requires endpoints within the mode's width, and what `raises` gives for the pixels.
 fn tried(
     mode: u8,
     ends: [Rgb; 4],
@@ -48,21 +49,21 @@ fn tried(
         1 => Subsets {
             first: Found {
                 p,
-                closest: Mode1::closest_rgb(rows[0], pixels, first, raises[0]),
+                closest: mode1::closest_rgb(rows[0], pixels, first, raises[0]),
             },
             second: Found {
                 p,
-                closest: Mode1::closest_rgb(rows[1], pixels, second, raises[1]),
+                closest: mode1::closest_rgb(rows[1], pixels, second, raises[1]),
             },
         },
         _ => Subsets {
             first: Found {
                 p,
-                closest: Mode3::closest_rgb(rows[0], pixels, first, raises[0]),
+                closest: mode3::closest_rgb(rows[0], pixels, first, raises[0]),
             },
             second: Found {
                 p,
-                closest: Mode3::closest_rgb(rows[1], pixels, second, raises[1]),
+                closest: mode3::closest_rgb(rows[1], pixels, second, raises[1]),
             },
         },
     }

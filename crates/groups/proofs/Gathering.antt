@@ -5,8 +5,8 @@ use mathlib.Core.Path.{_≡_, sym, ap, ap₂, _∙_}
 use mathlib.Core.List.{List, [], _∷_, _++_, map, append-nil, append-assoc}
 use lib.ListN.{length, getD, List·getD-append}
 use lib.Seq.{getD-append-add}
-use Rattle.bptc.specs.Rows.{upFrom}
-use Rattle.bptc.proofs.Rows.{each-suc, each-same, getD-each, listed}
+use Rattle.lists.specs.Rows.{upFrom}
+use Rattle.lists.proofs.Rows.{each-suc, each-same, getD-each, listed}
 use Rattle.groups.specs.Cutting.{gather}
 
 -- what is gathered again at places that undo the first

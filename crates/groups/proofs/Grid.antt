@@ -51,7 +51,7 @@ module _ (q a b k : ℕ) (ha : a < 4) (hb : b < 4) (hk : k < 3) where
   byte-channel = omega arith
 
 -- channel k of the pixel in column x, row y, among the groups' bytes
-module _ (w x y k : ℕ) (hx : x < w) (hk : k < 3) where
+module _ (w x y k : ℕ) (hx : x < 4 * groupsAcross w) (hk : k < 3) where
   pub grouped-column : columnOf w (groupedAt w x y k) ≡ x
   grouped-column =
       let q = y / 4 * groupsAcross w + x / 4 in
@@ -76,7 +76,7 @@ module _ (w x y k : ℕ) (hx : x < w) (hk : k < 3) where
   grouped-channel = byte-channel (y / 4 * groupsAcross w + x / 4) (y % 4) (x % 4) k (omega arith) (omega arith) hk
 
   -- the groups of h rows of pixels have it
-  pub grouped-below : (h : ℕ) → y < h → groupedAt w x y k < 48 * (groupsAcross w * groupsAcross h)
+  pub grouped-below : (h : ℕ) → y < 4 * groupsAcross h → groupedAt w x y k < 48 * (groupsAcross w * groupsAcross h)
   grouped-below h l =
       let a = groupsAcross w in
       let b = groupsAcross h in

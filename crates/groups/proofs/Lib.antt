@@ -2,3 +2,4 @@ pub mod Grid
 pub mod Gathering
 pub mod Standing
 pub mod Inverse
+pub mod Places

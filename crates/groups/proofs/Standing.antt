@@ -13,7 +13,7 @@ module _ (w h j : ℕ) (hw : 0 < w) (l : j < w * h * 3) where
   unfolding placeOf
   place-below =
       let b = pixel-inside w h j hw l in
-      grouped-below w (j / 3 % w) (j / 3 / w) (j % 3) (b .0) (omega arith) h (b .1)
+      grouped-below w (j / 3 % w) (j / 3 / w) (j % 3) (omega (arith, b .0)) (omega arith) h (omega (arith, b .1))
 
   -- and comes from where it was
   pub source-place : sourceOf w h (placeOf w j) ≡ j
@@ -22,11 +22,12 @@ module _ (w h j : ℕ) (hw : 0 < w) (l : j < w * h * 3) where
       let x = j / 3 % w in
       let y = j / 3 / w in
       let b = pixel-inside w h j hw l in
+      let hx : x < 4 * groupsAcross w = omega (arith, b .0) in
       let hk : j % 3 < 3 = omega arith in
       rw (
-        grouped-column w x y (j % 3) (b .0) hk,
-        grouped-row w x y (j % 3) (b .0) hk,
-        grouped-channel w x y (j % 3) (b .0) hk,
+        grouped-column w x y (j % 3) hx hk,
+        grouped-row w x y (j % 3) hx hk,
+        grouped-channel w x y (j % 3) hx hk,
         channel-inside w h x y (j % 3) (b .0) (b .1),
         div-add-mod' (j / 3) w,
       )

@@ -2,7 +2,7 @@
 use Prim.Native.Nat.{ℕ, _+_, _-_, _*_, _/_, _%_, min}
 use mathlib.Core.List.{List, map}
 use lib.ListN.{getD}
-use Rattle.bptc.specs.Rows.{upFrom}
+use Rattle.lists.specs.Rows.{upFrom}
 
 -- how many groups a side has
 abbrev pub groupsAcross : ℕ → ℕ

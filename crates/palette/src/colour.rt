@@ -1,13 +1,11 @@
 // A colour's way from its stored channels to the shown ones, between two, and the distance of two.
 ghost use mathlib.Core.Path.{_≡_};
-ghost use Prim.Native.Nat.{_*_, _^_, _<_, _≤_};
-ghost use Rattle.bptc.specs.Colour.{Below, each, both, sqDiff, distSq, dot};
+ghost use Prim.Native.Nat.{_^_, _<_, _≤_};
+ghost use Rattle.bptc.specs.Colour.{Below, each, both, sqDiff, distSq};
 ghost use Rattle.bptc.specs.Shown.{pShown};
 ghost use Rattle.bptc.specs.Palette.{blend};
+ghost use Rattle.bptc.specs.Pixels.{pixelOf};
 use bptc::Rgb;
-
-// The greatest distance between two colours.
-pub const GREATEST: u32 = 3 * 255 * 255;
 
 // A byte as a number that may be subtracted and squared.
 pub fn wide(x: u8) -> u32
@@ -72,13 +70,6 @@ pub fn interpolate_rgb(weight: u16, e0: Rgb, e1: Rgb) -> Rgb
     }
 }
 
-// The product of two channels.
-fn product(a: u8, b: u8) -> u32
-    ensures { λ r. ⌜ (r ≡ a * b) × (r ≤ 65025) ⌝ }
-{
-    wide(a) * wide(b)
-}
-
 // The square of the difference of two channels.
 fn sq_diff(a: u8, b: u8) -> u32
     ensures { λ r. ⌜ (r ≡ sqDiff a b) × (r ≤ 65025) ⌝ }
@@ -99,9 +90,13 @@ pub fn dist_sq(a: Rgb, b: Rgb) -> u32
     sq_diff(a.r, b.r) + sq_diff(a.g, b.g) + sq_diff(a.b, b.b)
 }
 
-// The product of two colours, channel by channel in sum.
-pub(crate) fn dot(a: Rgb, b: Rgb) -> u32
-    ensures { λ r. ⌜ (r ≡ dot a b) × (r ≤ 195075) ⌝ }
+// The pixel that a number stands for.
+pub fn pixel(x: u32) -> Rgb
+    ensures { λ r. ⌜ r ≡ pixelOf x ⌝ }
 {
-    product(a.r, b.r) + product(a.g, b.g) + product(a.b, b.b)
+    Rgb {
+        r: (x % 256) as u8,
+        g: (x / 256 % 256) as u8,
+        b: (x / 65536 % 256) as u8,
+    }
 }

@@ -1,11 +1,8 @@
-// The lowest layer of code for BC7 blocks in modes 1 and 3: partitions, shown colours, palettes, distances and nearest indices.
-pub use bptc::Closest;
+// The lowest layer of code for BC7 blocks in modes 1 and 3: partitions, shown colours, palettes and distances.
 pub use bptc::Rgb;
 
 pub mod colour;
 pub mod palettes;
-pub mod pixels;
-pub mod search;
 pub mod table;
 
 // Mode 1: one p-bit for each subset.

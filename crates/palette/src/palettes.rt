@@ -3,7 +3,7 @@ ghost use mathlib.Core.Path.{_≡_};
 ghost use Prim.Native.Nat.{ℕ, _^_, _<_, _≤_};
 ghost use mathlib.Core.List.{map};
 ghost use lib.ListN.{getD};
-ghost use Rattle.bptc.specs.Rows.{upFrom};
+ghost use Rattle.lists.specs.Rows.{upFrom};
 ghost use Rattle.bptc.specs.Mode.{mode1, mode3, modeNumbered};
 ghost use Rattle.bptc.specs.Colour.{black, Below};
 ghost use Rattle.bptc.specs.Shown.{Stored, endShownBy};

@@ -2,8 +2,8 @@
 ghost use mathlib.Core.Path.{_≡_};
 ghost use Prim.Native.Nat.{_<_, _≤_};
 ghost use lib.ListN.{length};
+use bptc::Closest;
 use libc::STDOUT_FILENO;
-use palette::Closest;
 use palette::Mode1;
 use palette::Mode3;
 use palette::Rgb;
@@ -169,15 +169,15 @@ fn find(mode: u8, partition: usize, subset: u8) -> Closest
     requires two { ⌜ subset < 2 ⌝ }
 {
     let bytes = pixels();
-    let words = palette::pixels::pixel_words(&bytes);
+    let words = search::pixels::pixel_words(&bytes);
     let mask = palette::table::mask(partition);
-    let second = palette::pixels::members(mask, 1);
-    let raises = palette::pixels::raises(&words, &second);
-    let members = palette::pixels::members(mask, subset);
+    let second = search::pixels::members(mask, 1);
+    let raises = search::pixels::raises(&words, &second);
+    let members = search::pixels::members(mask, subset);
     let s = subset as usize;
     match mode {
-        1 => Mode1::closest_rgb(palettes1(partition)[s], &words, &members, raises[s]),
-        _ => Mode3::closest_rgb(palettes3(partition)[s], &words, &members, raises[s]),
+        1 => search::mode1::closest_rgb(palettes1(partition)[s], &words, &members, raises[s]),
+        _ => search::mode3::closest_rgb(palettes3(partition)[s], &words, &members, raises[s]),
     }
 }
 

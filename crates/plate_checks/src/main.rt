@@ -11,6 +11,7 @@ fn main() {
     wrong::cut_files();
     wrong::headers();
     wrong::plates();
+    wrong::flags();
     wrong::arguments();
     kept::say_same(b"kept.bc7", b"small.bc7");
 }

@@ -71,6 +71,15 @@ pub(crate) fn plates() {
     run(b"show\x00small.bc7\x009\x004\x00picture.ppm\x00");
 }
 
+// Proposals in which the last byte of a record, the second of block 1, is 2.
+pub(crate) fn flags() {
+    write(
+        b"wrong",
+        b"\x01\x03\x090123456789ab\x05\x00\x02\x03\x090123456789ab\x05\x01\x03\x090123456789ab\x05\x02",
+    );
+    run(b"bake\x00small.ppm\x00kept.bc7\x00wrong\x00");
+}
+
 // Wrong arguments, files that are not there, and an output that is an input.
 pub(crate) fn arguments() {
     run(b"");

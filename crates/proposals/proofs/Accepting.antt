@@ -6,12 +6,12 @@ use mathlib.Core.Logic.{inl, inr}
 use mathlib.Core.List.{List, [], _∷_, List·Memᴰ, List·Memᴰ·head, List·Memᴰ·tail}
 use mathlib.Core.List.{List·Memᴰ·not-nil, List·Memᴰ·cases-cons, List·Memᴰ·append-cases}
 use lib.ListN.{length, getD}
+use Rattle.lists.specs.Parts.{joined}
+use Rattle.lists.specs.Bytes.{Bytes}
+use Rattle.lists.proofs.Parts.{joined-length}
 use Rattle.bptc.specs.declared.Rgb.{Rgb}
-use Rattle.bptc.specs.Parts.{joined}
-use Rattle.bptc.specs.Bytes.{Bytes}
 use Rattle.bptc.specs.Mode.{Known, modeNumbered}
 use Rattle.bptc.specs.Colour.{black, Below}
-use Rattle.bptc.proofs.Parts.{joined-length}
 use Rattle.bptc_block.specs.declared.Candidate.{Candidate}
 use Rattle.bptc_block.proofs.Refusals.{checked}
 use Rattle.chooser.specs.declared.Chooser.{Chooser}

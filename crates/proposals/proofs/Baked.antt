@@ -5,15 +5,14 @@ use mathlib.Core.Path.{_≡_, refl, ap, _∙_}
 use mathlib.Core.List.{List, [], List·Memᴰ, List·Memᴰ·head, Memᴰ·append-right}
 use lib.ListN.{length, replicate, drop}
 use lib.Seq.{getD-take, getD-drop}
-use Rattle.bptc.specs.Bytes.{Bytes}
-use Rattle.bptc.proofs.Rows.{getD-each}
-use Rattle.bptc.proofs.Parts.{part-length, joined-at}
+use Rattle.lists.specs.Bytes.{Bytes}
+use Rattle.lists.proofs.Rows.{getD-each}
+use Rattle.lists.proofs.Parts.{part-length, joined-at}
 use Rattle.bptc_block.specs.declared.Candidate.{Candidate}
 use Rattle.bptc_block.specs.MeasureCall.{measureOf}
 use Rattle.bptc_block.proofs.FinishCall.{finish-declines}
 use Rattle.bptc_block.proofs.Promise.{measure-finished}
 use Rattle.chooser.specs.StartCall.{startOf}
-use Rattle.chooser.specs.OfferCall.{finishGives}
 use Rattle.chooser.specs.Calls.{accepted}
 use Rattle.chooser.specs.Demand3.{Promise}
 use Rattle.chooser.proofs.Calls.{started-own}
@@ -35,19 +34,18 @@ module _ (px : List ℕ) (own : length px ≡ 48) (bytes : Bytes px) where
   promise =
       let some : proposalsOf px ≡ [] → ⊥ = λ none. omega (arith, ap length none, proposals-length px) in
       rw (started-own px own)
-      (rw (all-accepted, started-own px own) at
+      (rw all-accepted at
       (demand3 px (offers (proposalsOf px)) (replicate 16 0) bytes
-      (rw all-accepted (λ c m. proposals-sound px bytes c m .four)) (rw all-accepted some) refl))
+      (rw all-accepted (λ c m. proposals-sound px bytes c m .four)) (rw all-accepted some) refl .0 own))
 
   -- the block is a finished one
   measured : measureOf (baked px .block) px ≡ record { refusal = 0; error = baked px .error }
-  unfolding finishGives
   measured =
       let w : Candidate = promise .winner in
       let among : List·Memᴰ w (proposalsOf px) =
       rw (promise .earliest .whole) (Memᴰ·append-right (promise .earliest .before) (List·Memᴰ·head refl)) in
       let sound : Sound w = proposals-sound px bytes w among in
-      rw (promise .finished)
+      rw (promise .block, promise .error)
       (measure-finished px w (replicate 16 0) (sound .four) (finish-declines px w (replicate 16 0) own refl ∙ sound .passes))
 
 -- for every 48 bytes

@@ -9,11 +9,11 @@ use mathlib.Core.List.{List}
 use lib.Dec.{eqb}
 use lib.ListN.{getD}
 use borrow.Author.Tests.{eq-eqb, ne-eqb, eqb-false}
+use Rattle.lists.specs.Bytes.{Bytes}
+use Rattle.lists.proofs.Tests.{pick-elim}
 use Rattle.bptc.specs.declared.Rgb.{Rgb}
-use Rattle.bptc.specs.Bytes.{Bytes}
 use Rattle.bptc.specs.Colour.{black, Below, coloursOf}
 use Rattle.bptc.specs.Partition.{subsetOf}
-use Rattle.bptc.proofs.Tests.{pick-elim}
 use Rattle.bptc.proofs.ColourBounds.{below-black, pixels-shown}
 use Rattle.proposals.specs.declared.corners.Bounds.{Bounds}
 use Rattle.proposals.specs.Corners.{nowhere, widened, cornersTo, cornersOf, Inside, Boxed}

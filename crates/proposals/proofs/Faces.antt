@@ -8,10 +8,10 @@ use mathlib.Core.List.{List}
 use lib.Dec.{eqb}
 use lib.ListN.{getD}
 use borrow.Author.Tests.{eqb-true}
+use Rattle.lists.proofs.Tests.{pick-elim}
 use Rattle.bptc.specs.declared.Rgb.{Rgb}
 use Rattle.bptc.specs.Colour.{black, both, Below, coloursOf}
 use Rattle.bptc.specs.Partition.{subsetOf}
-use Rattle.bptc.proofs.Tests.{pick-elim}
 use Rattle.bptc.proofs.ColourBounds.{pixels-shown}
 use Rattle.proposals.specs.declared.corners.Bounds.{Bounds}
 use Rattle.proposals.specs.Corners.{nowhere, widened, cornersTo, cornersOf, Inside, Touched, Tight}

@@ -4,11 +4,11 @@ use mathlib.Core.Path.{_≡_, refl, sym, ap, _∙_}
 use mathlib.Core.List.{List, [], _∷_}
 use lib.Dec.{eqb, leb}
 use lib.ListN.{length, replicate}
-use Rattle.bptc.proofs.Tests.{pick-elim}
+use Rattle.lists.proofs.Tests.{pick-elim}
 use Rattle.bptc_block.specs.declared.Candidate.{Candidate}
 use Rattle.bptc_block.specs.Finish.{finish}
 use Rattle.bptc_block.specs.FinishCall.{finishRefusal, finishInto}
-use Rattle.bptc_block.specs.Rust.Compressed.{Compressed}
+use Rattle.bptc_block.specs.Compressed.{Compressed}
 use Rattle.bptc_block.proofs.Packed.{packed-length}
 use Rattle.chooser.specs.declared.Chooser.{Chooser}
 use Rattle.chooser.specs.declared.Started.{Started}

@@ -3,8 +3,8 @@ use Prim.Native.Nat.{ℕ, _+_}
 use native.Mathlib.Numerals.{add-one}
 use mathlib.Core.Path.{_≡_, refl, sym, ap, _∙_}
 use mathlib.Core.List.{List, [], _∷_, _++_, map-append}
-use Rattle.bptc.specs.Parts.{joined}
-use Rattle.bptc.proofs.Rows.{each-suc}
+use Rattle.lists.specs.Parts.{joined}
+use Rattle.lists.proofs.Rows.{each-suc}
 use Rattle.bptc_block.specs.declared.Candidate.{Candidate}
 use Rattle.chooser.specs.declared.Chooser.{Chooser}
 use Rattle.chooser.specs.declared.Offered.{Offered}

@@ -3,11 +3,11 @@ use Prim.Native.Nat.{ℕ, _*_, _<_}
 use mathlib.Core.Path.{_≡_}
 use mathlib.Core.List.{List, map}
 use lib.ListN.{length, getD, replicate}
-use Rattle.bptc.specs.Bytes.{Bytes}
-use Rattle.bptc.specs.Rows.{upFrom}
-use Rattle.bptc.specs.Parts.{partAt, joined}
+use Rattle.lists.specs.Bytes.{Bytes}
+use Rattle.lists.specs.Rows.{upFrom}
+use Rattle.lists.specs.Parts.{partAt, joined}
 use Rattle.bptc_block.specs.MeasureCall.{measureOf}
-use Rattle.bptc_block.specs.Rust.Compressed.{Compressed}
+use Rattle.bptc_block.specs.Compressed.{Compressed}
 use Rattle.chooser.specs.declared.Chooser.{Chooser}
 use Rattle.chooser.specs.StartCall.{startedOver, startOf}
 use Rattle.chooser.specs.Calls.{after, held}

@@ -2,9 +2,9 @@
 use Prim.Native.Nat.{ℕ, _/_}
 use mathlib.Core.List.{List, [], _∷_}
 use lib.Dec.{eqb}
+use Rattle.lists.specs.Parts.{joined}
+use Rattle.lists.specs.Tests.{pick}
 use Rattle.bptc.specs.declared.Rgb.{Rgb}
-use Rattle.bptc.specs.Parts.{joined}
-use Rattle.bptc.specs.Tests.{pick}
 use Rattle.bptc.specs.Colour.{each}
 use Rattle.bptc_block.specs.declared.Candidate.{Candidate}
 use Rattle.bptc_block.specs.declared.PBits.the-variants.{Free}

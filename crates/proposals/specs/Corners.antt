@@ -4,9 +4,9 @@ use mathlib.Core.Path.{_≡_}
 use mathlib.Core.List.{List}
 use lib.Dec.{eqb}
 use lib.ListN.{getD}
+use Rattle.lists.specs.Bytes.{Bytes}
+use Rattle.lists.specs.Tests.{pick}
 use Rattle.bptc.specs.declared.Rgb.{Rgb}
-use Rattle.bptc.specs.Bytes.{Bytes}
-use Rattle.bptc.specs.Tests.{pick}
 use Rattle.bptc.specs.Colour.{black, both, coloursOf}
 use Rattle.bptc.specs.Partition.{subsetOf}
 use Rattle.proposals.specs.declared.corners.Bounds.{Bounds}

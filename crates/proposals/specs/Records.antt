@@ -4,9 +4,9 @@ use mathlib.Core.Bool.{Bool}
 use mathlib.Core.List.{List, [], _∷_, map}
 use lib.Dec.{leb}
 use lib.ListN.{getD, take, drop}
-use Rattle.bptc.specs.Rows.{upFrom}
-use Rattle.bptc.specs.Parts.{partAt}
-use Rattle.bptc.specs.Tests.{all}
+use Rattle.lists.specs.Rows.{upFrom}
+use Rattle.lists.specs.Parts.{partAt}
+use Rattle.lists.specs.Tests.{all}
 use Rattle.bptc.specs.declared.Rgb.{Rgb}
 use Rattle.bptc_block.specs.declared.Candidate.{Candidate}
 use Rattle.bptc_block.specs.Fields.{pBitsOf}

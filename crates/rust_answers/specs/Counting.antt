@@ -1,7 +1,7 @@
 -- Counting answers, modulo 2 ^ 64.
 use Prim.Native.Nat.{_+_, _%_, _^_}
 use mathlib.Core.Bool.{Bool}
-use Rattle.bptc.specs.Tests.{pick}
+use Rattle.lists.specs.Tests.{pick}
 use Rattle.rust_answers.specs.declared.tally.Count.{Count}
 
 -- one answer more, which is the recorded one or differs

@@ -3,8 +3,8 @@ use Prim.Native.Nat.{ℕ, _/_, _%_}
 use mathlib.Core.List.{List, map}
 use lib.Dec.{eqb}
 use lib.ListN.{getD}
-use Rattle.bptc.specs.Rows.{upFrom}
-use Rattle.bptc.specs.Tests.{pick}
+use Rattle.lists.specs.Rows.{upFrom}
+use Rattle.lists.specs.Tests.{pick}
 
 -- the index of a pixel: of a byte's two the lower half is the earlier
 abbrev pub indexIn : List ℕ → ℕ → ℕ

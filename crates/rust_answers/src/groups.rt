@@ -12,11 +12,11 @@ use crate::tally::Tally;
 use crate::tally::counted;
 use crate::tally::marked;
 use crate::tally::none;
-use bits::reading::number;
 use block::Candidate;
 use chooser::Chooser;
 use libc::STDIN_FILENO;
 use proposals::records::candidate;
+use reading::number;
 
 // The bytes of a group.
 const GROUP: usize = 1028;

@@ -8,14 +8,14 @@ use mathlib.Core.List.{[], _∷_, _++_}
 use lib.Dec.{lit<, ltb}
 use lib.ListN.{length, length-append}
 use borrow.Author.Tests.{ltb-true, ltb-false, lt-ltb, le-ltb, le-leb, eq-eqb, ne-eqb}
-use Rattle.bptc.specs.Tests.{pick}
-use Rattle.io.specs.Digits.{digits, Fewest}
+use Rattle.lists.specs.Tests.{pick}
 use Rattle.text.specs.declared.decimal.Parsed.the-variants.{Number}
 use Rattle.text.specs.Runs.{run}
 use Rattle.text.specs.Line.{decimalIn, decimalOf}
 use Rattle.text.specs.Decimal.{isDigit, valueFrom, valueOf, numberIn}
 use Rattle.text.proofs.RunPlaces.{run-append}
 use Rattle.text.proofs.DecimalValue.{value-append}
+use Rattle.io.specs.Digits.{digits, Fewest}
 
 -- a number's tenth has one digit less
 tenth-below : (k n : ℕ) → n < 10 ^ suc k → n / 10 < 10 ^ k

@@ -10,7 +10,7 @@ use lib.Dec.{leb, ltb}
 use lib.ListN.{length, getD, take}
 use lib.Seq.{take-suc}
 use borrow.Author.Tests.{leb-true, ltb-false}
-use Rattle.bptc.specs.Tests.{pick}
+use Rattle.lists.specs.Tests.{pick}
 use Rattle.text.specs.Decimal.{isDigit, digitsIn, valueFrom, valueOf}
 use Rattle.text.proofs.RunPlaces.{run-at}
 

@@ -7,12 +7,11 @@ use mathlib.Core.List.{List}
 use lib.Dec.{leb, ltb, eqb}
 use lib.ListN.{length, getD, List·getD-eq-default}
 use borrow.Author.Tests.{leb-true, ltb-false, ltb-true, eqb-true, eqb-false}
-use Rattle.bptc.specs.Tests.{pick}
-use Rattle.bptc.proofs.Tests.{pick-elim}
+use Rattle.lists.specs.Tests.{pick}
+use Rattle.lists.proofs.Tests.{pick-elim}
 use Rattle.text.specs.declared.Header.{Header}
 use Rattle.text.specs.declared.ppm.Field.{Field}
-use Rattle.text.specs.Ppm.{isSpace, wrongHeader, sizeFits, earlier, sizeMistake, maxvalMistake, mistakeOf}
-use Rattle.text.specs.Ppm.{headerBy, startsP6, headerOf, fieldAt, Sized}
+use Rattle.text.specs.Ppm.{isSpace, wrongHeader, sizeFits, earlier, sizeMistake, maxvalMistake, mistakeOf, headerBy, startsP6, headerOf, fieldAt, Sized}
 
 -- a size that fits
 size-range : (n : ℕ) → sizeFits n ≡ true → (1 ≤ n) × (n ≤ 16384)

@@ -4,7 +4,7 @@ use mathlib.Core.Bool.{Bool, false}
 use mathlib.Core.List.{List, [], _∷_}
 use lib.Dec.{leb, ltb, eqb}
 use lib.ListN.{length}
-use Rattle.bptc.specs.Tests.{pick}
+use Rattle.lists.specs.Tests.{pick}
 use Rattle.text.specs.declared.decimal.Parsed.{Parsed}
 use Rattle.text.specs.declared.decimal.Parsed.the-variants.{Number, Wrong}
 use Rattle.text.specs.Runs.{run}

@@ -3,3 +3,4 @@ pub mod Line
 pub mod Decimal
 pub mod Words
 pub mod Ppm
+pub mod Worked

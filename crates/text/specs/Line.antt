@@ -5,7 +5,7 @@ use mathlib.Core.Bool.{Bool}
 use mathlib.Core.List.{List, [], _∷_, _++_}
 use lib.Dec.{leb, ltb}
 use lib.ListN.{length, take, drop}
-use Rattle.bptc.specs.Tests.{pick}
+use Rattle.lists.specs.Tests.{pick}
 
 -- whether a text fits into a buffer at a place
 abbrev pub fits : List ℕ → List ℕ → ℕ → Bool

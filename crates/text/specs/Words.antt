@@ -4,7 +4,7 @@ use mathlib.Core.Bool.{Bool, not}
 use mathlib.Core.List.{List, [], _∷_}
 use lib.Dec.{leb, eqb}
 use lib.ListN.{take}
-use Rattle.bptc.specs.Tests.{pick}
+use Rattle.lists.specs.Tests.{pick}
 use Rattle.text.specs.Runs.{run}
 
 -- how many words a line has: its 0 bytes

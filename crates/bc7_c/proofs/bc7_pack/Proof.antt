@@ -6,14 +6,14 @@ use mathlib.Core.Logic.{⊎-elim}
 use mathlib.Core.List.{List}
 use lib.ListN.{length}
 use borrow.Author.Tests.{eq-eqb, ne-eqb}
+use borrow.Author.Needs.{needs}
 use Rattle.bptc.specs.Mode.{modeNumbered}
 use Rattle.bptc_block.specs.declared.Fields.{Fields}
 use Rattle.bptc_block.specs.PackCall.{packOf, packInto}
-use Rattle.bptc_block.specs.Rust.IndexList.{index-list}
 use Rattle.bptc_block.proofs.PackCall.{pack-leaves, pack-block}
+use Rattle.bptc_rust.specs.IndexList.{index-list}
 use Rattle.bc7_c.specs.Numbers.{indicesOf, packedOf}
 use Rattle.bc7_c.proofs.Accepted.{Accepted, accept}
-use borrow.Author.Needs.{needs}
 use Rattle.bc7_c.proofs.bc7_pack.Statement.{statement}
 use Rattle.bc7_c.proofs.bc7_pack.Tie as tie
 

@@ -5,8 +5,8 @@ use mathlib.Core.Path.{_≡_, refl, _∙_}
 use lib.Bits.{bitOr}
 use lib.ListN.{getD, replicate}
 use borrow.Author.Needs.{needs}
-use Rattle.bptc.specs.Rows.{written}
-use Rattle.bptc.proofs.Rows.{written-next, written-all}
+use Rattle.lists.specs.Rows.{written}
+use Rattle.lists.proofs.Rows.{written-next, written-all}
 use Rattle.finishing.proofs.merge2.Statement.{statement}
 use Rattle.finishing.proofs.merge2.Tie as tie
 

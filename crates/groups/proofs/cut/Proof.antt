@@ -5,8 +5,8 @@ use native.Mathlib.Omega.{arith}
 use mathlib.Core.Path.{_≡_, refl, _∙_}
 use lib.ListN.{length, getD}
 use borrow.Author.Needs.{needs}
-use Rattle.bptc.specs.Rows.{written}
-use Rattle.bptc.proofs.Rows.{written-next, written-all}
+use Rattle.lists.specs.Rows.{written}
+use Rattle.lists.proofs.Rows.{written-next, written-all}
 use Rattle.groups.specs.Cutting.{groupsAcross, sourceOf, groupsOf}
 use Rattle.groups.proofs.cut.Statement.{statement}
 use Rattle.groups.proofs.cut.Tie as tie

@@ -1,7 +1,7 @@
 -- `palette_checks::palettes1` meets its contract: its endpoints are within the mode's width.
 use native.Mathlib.Omega.{arith}
 use borrow.Author.Needs.{needs}
-use Rattle.bptc.proofs.Tables.{four}
+use Rattle.lists.proofs.Tables.{four}
 use Rattle.palette_checks.proofs.palettes1.Statement.{statement}
 use Rattle.palette_checks.proofs.palettes1.Tie as tie
 

@@ -1,7 +1,7 @@
 -- `palette_checks::palettes3` meets its contract: its endpoints are within the mode's width.
 use native.Mathlib.Omega.{arith}
 use borrow.Author.Needs.{needs}
-use Rattle.bptc.proofs.Tables.{four}
+use Rattle.lists.proofs.Tables.{four}
 use Rattle.palette_checks.proofs.palettes3.Statement.{statement}
 use Rattle.palette_checks.proofs.palettes3.Tie as tie
 

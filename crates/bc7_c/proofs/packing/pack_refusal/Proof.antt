@@ -2,11 +2,11 @@
 use mathlib.Core.Path.{_≡_, _∙_}
 use mathlib.Core.Logic.{inl, inr}
 use borrow.Author.Tests.{ne-eqb}
-use Rattle.bptc_block.specs.Bits.{join}
+use borrow.Author.Needs.{needs}
+use Rattle.lists.specs.Bits.{join}
 use Rattle.bptc_block.specs.Refusal.{checkCandidate}
 use Rattle.bc7_c.specs.Masks.{above}
 use Rattle.bc7_c.proofs.Masked.{masked-checked}
-use borrow.Author.Needs.{needs}
 use Rattle.bc7_c.proofs.packing.pack_refusal.Statement.{statement}
 use Rattle.bc7_c.proofs.packing.pack_refusal.Tie as tie
 

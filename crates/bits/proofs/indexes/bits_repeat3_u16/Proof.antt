@@ -1,6 +1,6 @@
 -- `bits::indexes::bits_repeat3_u16` meets its contract.
 use mathlib.Core.Path.{refl}
-use Rattle.bptc_block.specs.Rust.CompressedIndexList.{bits-repeat3-u16}
+use Rattle.bptc_rust.specs.CompressedIndexList.{bits-repeat3-u16}
 use Rattle.bits.proofs.indexes.bits_repeat3_u16.Statement.{statement}
 use Rattle.bits.proofs.indexes.bits_repeat3_u16.Tie as tie
 

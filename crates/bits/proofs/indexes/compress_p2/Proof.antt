@@ -3,8 +3,8 @@ use borrow.Author.Needs.{needs}
 use Prim.Native.Nat.{_*_}
 use lib.Pow.{pow-pos}
 use native.Mathlib.Omega.{arith}
-use Rattle.bptc_block.proofs.Rust.Digits.{one-shl}
-use Rattle.bptc_block.proofs.Rust.Compressing.{p2-steps}
+use Rattle.bptc_rust.proofs.Digits.{one-shl}
+use Rattle.bptc_rust.proofs.Compressing.{p2-steps}
 use Rattle.bits.proofs.indexes.compress_p2.Statement.{statement}
 use Rattle.bits.proofs.indexes.compress_p2.Tie as tie
 

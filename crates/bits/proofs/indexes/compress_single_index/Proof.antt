@@ -2,9 +2,9 @@
 use borrow.Author.Needs.{needs}
 use mathlib.Core.Path.{refl}
 use native.Mathlib.Omega.{arith}
-use Rattle.bptc_block.specs.Rust.CompressedIndexList.{compress-single-index}
 use lib.Pow.{pow-pos}
-use Rattle.bptc_block.proofs.Rust.Digits.{one-shl}
+use Rattle.bptc_rust.specs.CompressedIndexList.{compress-single-index}
+use Rattle.bptc_rust.proofs.Digits.{one-shl}
 use Rattle.bits.proofs.indexes.compress_single_index.Statement.{statement}
 use Rattle.bits.proofs.indexes.compress_single_index.Tie as tie
 

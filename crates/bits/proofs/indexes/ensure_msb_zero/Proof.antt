@@ -1,8 +1,8 @@
 -- `bits::indexes::ensure_msb_zero` meets its contract.
 use borrow.Author.Needs.{needs}
 use mathlib.Core.Path.{refl}
-use Rattle.bptc_block.specs.Rust.CompressedIndexList.{ensure-msb-zero}
 use borrow.Author.Tests.{eq-eqb, ne-eqb}
+use Rattle.bptc_rust.specs.CompressedIndexList.{ensure-msb-zero}
 use Rattle.bits.proofs.indexes.ensure_msb_zero.Statement.{statement}
 use Rattle.bits.proofs.indexes.ensure_msb_zero.Tie as tie
 

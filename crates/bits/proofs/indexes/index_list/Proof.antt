@@ -8,9 +8,9 @@ use native.Mathlib.Numerals.{add-one}
 use lib.ListN.{take, getD}
 use lib.Seq.{take-all}
 use lib.Pow.{pow-mono}
-use Rattle.bptc_block.specs.Bits.{join}
-use Rattle.bptc_block.specs.Rust.IndexList.{put}
-use Rattle.bptc_block.proofs.Rust.Digits.{digits, put-next, list-digits}
+use Rattle.lists.specs.Bits.{join}
+use Rattle.bptc_rust.specs.IndexList.{put}
+use Rattle.bptc_rust.proofs.Digits.{digits, put-next, list-digits}
 use Rattle.bits.proofs.indexes.index_list.Statement.{statement}
 use Rattle.bits.proofs.indexes.index_list.Tie as tie
 

@@ -1,6 +1,6 @@
 -- `bits::indexes::narrowed` meets its contract.
-use Rattle.bptc_block.proofs.Pairs.{lowMask, highMask, narrow-list}
 use borrow.Author.Needs.{needs}
+use Rattle.bptc_rust.proofs.Pairs.{lowMask, highMask, narrow-list}
 use Rattle.bits.proofs.indexes.narrowed.Statement.{statement}
 use Rattle.bits.proofs.indexes.narrowed.Tie as tie
 

@@ -2,7 +2,7 @@
 use borrow.Author.Needs.{needs}
 use mathlib.Core.Path.{sym}
 use native.Mathlib.Omega.{arith}
-use Rattle.bptc_block.proofs.Halves.{byte-low, byte-high}
+use Rattle.lists.proofs.Halves.{byte-low, byte-high}
 use Rattle.bits.proofs.stream.byte.Statement.{statement}
 use Rattle.bits.proofs.stream.byte.Tie as tie
 

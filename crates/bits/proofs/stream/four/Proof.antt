@@ -6,7 +6,7 @@ use native.Mathlib.Nat.{zero-mul, zero-add, lt-of-lt-of-le}
 use native.Mathlib.Omega.{arith}
 use lib.Arith.{digits-lt}
 use lib.Pow.{pow-add, pow-mono, shl-exact}
-use Rattle.bptc_block.specs.Bits.{join}
+use Rattle.lists.specs.Bits.{join}
 use Rattle.bits.proofs.stream.four.Statement.{statement}
 use Rattle.bits.proofs.stream.four.Tie as tie
 

@@ -3,12 +3,12 @@ use borrow.Author.Needs.{needs}
 use Prim.Native.Nat.{ℕ, _-_, _≤_}
 use native.Mathlib.Omega.{arith}
 use lib.ListN.{getD, length, length-set}
-use Rattle.bptc.specs.Rows.{written}
-use Rattle.bptc_block.specs.Bits.{halves}
-use Rattle.bptc_block.specs.Bytes.{bytes}
-use Rattle.bptc.proofs.Rows.{written-next, written-all, listed}
-use Rattle.bptc_block.proofs.Bytes.{length-bytes}
 use mathlib.Core.Path.{_≡_, refl, sym, _∙_}
+use Rattle.lists.specs.Rows.{written}
+use Rattle.lists.specs.Bits.{halves}
+use Rattle.lists.specs.Bytes.{bytes}
+use Rattle.lists.proofs.Rows.{written-next, written-all, listed}
+use Rattle.lists.proofs.Bytes.{length-bytes}
 use Rattle.bits.proofs.stream.write_bytes.Statement.{statement}
 use Rattle.bits.proofs.stream.write_bytes.Tie as tie
 

@@ -2,12 +2,12 @@
 use borrow.Author.Needs.{needs}
 use native.Mathlib.Omega.{arith}
 use lib.Pow.{pow-lt}
-use Rattle.bptc_block.proofs.Widths.{front-steps}
-use Rattle.bptc_block.proofs.Rust.Digits.{one-shl}
 use mathlib.Core.Path.{_≡_, _∙_}
 use Prim.Native.Nat.{_+_, _*_, _-_, _^_, _≤_, _<_}
 use native.Mathlib.Nat.{zero-add, mul-one}
-use Rattle.bptc_block.specs.Bits.{halves}
+use Rattle.lists.specs.Bits.{halves}
+use Rattle.bptc_block.proofs.Widths.{front-steps}
+use Rattle.bptc_rust.proofs.Digits.{one-shl}
 use Rattle.bits.proofs.stream.write_fields.Statement.{statement}
 use Rattle.bits.proofs.stream.write_fields.Tie as tie
 

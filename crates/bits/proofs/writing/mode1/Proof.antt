@@ -6,9 +6,9 @@ use Rattle.bptc.specs.Mode.{mode1}
 use Rattle.bptc.proofs.PartitionRule.{placed}
 use Rattle.bptc_block.specs.Fields.{wordFields}
 use Rattle.bptc_block.proofs.Modes.{lawful}
-use Rattle.bptc_block.proofs.Rust.Digits.{split-list}
-use Rattle.bptc_block.proofs.Rust.Masks.{masks1}
-use Rattle.bptc_block.proofs.Rust.Writing.{bits-stay, Ready, ready}
+use Rattle.bptc_rust.proofs.Digits.{split-list}
+use Rattle.bptc_rust.proofs.Masks.{masks1}
+use Rattle.bptc_rust.proofs.Writing.{bits-stay, Ready, ready}
 use Rattle.bits.proofs.writing.mode1.Statement.{statement}
 use Rattle.bits.proofs.writing.mode1.Tie as tie
 

@@ -7,9 +7,9 @@ use Rattle.bptc.specs.Mode.{mode3}
 use Rattle.bptc.proofs.PartitionRule.{placed}
 use Rattle.bptc_block.specs.Fields.{wordFields}
 use Rattle.bptc_block.proofs.Modes.{lawful}
-use Rattle.bptc_block.proofs.Rust.Digits.{split-list}
-use Rattle.bptc_block.proofs.Rust.Masks.{masks3}
-use Rattle.bptc_block.proofs.Rust.Writing.{bits-turned, Ready, ready}
+use Rattle.bptc_rust.proofs.Digits.{split-list}
+use Rattle.bptc_rust.proofs.Masks.{masks3}
+use Rattle.bptc_rust.proofs.Writing.{bits-turned, Ready, ready}
 use Rattle.bits.proofs.writing.mode3.Statement.{statement}
 use Rattle.bits.proofs.writing.mode3.Tie as tie
 

@@ -4,10 +4,10 @@ use native.Mathlib.Omega.{arith}
 use mathlib.Core.Path.{_≡_}
 use mathlib.Core.List.{map}
 use lib.ListN.{length, getD}
+use borrow.Author.Needs.{needs}
+use Rattle.lists.proofs.Rows.{getD-map}
 use Rattle.bptc.specs.Colour.{black}
 use Rattle.bptc.specs.Pixels.{pixelOf}
-use Rattle.bptc.proofs.Rows.{getD-map}
-use borrow.Author.Needs.{needs}
 use Rattle.bits.proofs.writing.swapped.Statement.{statement}
 use Rattle.bits.proofs.writing.swapped.Tie as tie
 

@@ -1,8 +1,8 @@
 -- `bits::writing::write_block` meets its contract.
-use Rattle.bptc.specs.Mode.{modeNumbered}
-use Rattle.bptc_block.proofs.WordFields.{fields-again, list-small}
-use Rattle.bptc_block.proofs.Rust.Compressing.{plain-small}
 use borrow.Author.Needs.{needs}
+use Rattle.bptc.specs.Mode.{modeNumbered}
+use Rattle.bptc_rust.proofs.WordFields.{fields-again, list-small}
+use Rattle.bptc_rust.proofs.Compressing.{plain-small}
 use Rattle.bits.proofs.writing.write_block.Statement.{statement}
 use Rattle.bits.proofs.writing.write_block.Tie as tie
 

@@ -8,8 +8,8 @@ use lib.Dec.{leb}
 use lib.ListN.{length, take, getD}
 use lib.Seq.{take-all}
 use borrow.Author.Needs.{needs}
-use Rattle.bptc.specs.Tests.{and, all}
-use Rattle.bptc.proofs.Tests.{and-passes, and-stops, all-next}
+use Rattle.lists.specs.Tests.{and, all}
+use Rattle.lists.proofs.Tests.{and-passes, and-stops, all-next}
 use Rattle.block.proofs.checks.all_small.Statement.{statement}
 use Rattle.block.proofs.checks.all_small.Tie as tie
 

@@ -4,12 +4,12 @@ use mathlib.Core.Path.{_≡_, sym, ap, _∙_}
 use mathlib.Core.List.{List}
 use lib.ListN.{length, getD}
 use borrow.Author.Needs.{needs}
+use Rattle.lists.specs.Tests.{and}
+use Rattle.lists.proofs.Tests.{and-last}
+use Rattle.lists.proofs.Tables.{of-four}
 use Rattle.bptc.specs.declared.Rgb.{Rgb}
-use Rattle.bptc.specs.Tests.{and}
 use Rattle.bptc.specs.Colour.{black}
-use Rattle.bptc.proofs.Tests.{and-last}
 use Rattle.bptc_block.specs.Refusal.{within, inRange}
-use Rattle.bptc_block.proofs.Rust.Swaps.{of-four}
 use Rattle.block.proofs.checks.in_range.Statement.{statement}
 use Rattle.block.proofs.checks.in_range.Tie as tie
 

@@ -6,7 +6,7 @@ use lib.Dec.{leb}
 use borrow.Author.Needs.{needs}
 use borrow.Author.Tests.{ne-eqb}
 use denote.Ref.{now}
-use Rattle.bptc.specs.Tests.{all}
+use Rattle.lists.specs.Tests.{all}
 use Rattle.bptc.specs.Mode.{modeNumbered, largest}
 use Rattle.block.proofs.checks.indices_refusal.Statement.{statement}
 use Rattle.block.proofs.checks.indices_refusal.Tie as tie

@@ -3,7 +3,7 @@ use borrow.Author.Needs.{needs}
 use native.Mathlib.Nat.{lt-of-le-of-lt}
 use lib.Dec.{lit<}
 use lib.ListN.{getD}
-use Rattle.bptc.proofs.Digits.{zeros-is, zeros-le}
+use Rattle.lists.proofs.Digits.{zeros-is, zeros-le}
 use Rattle.bptc_block.specs.Packed.{modeOf}
 use Rattle.block.proofs.checks.mode_of.Statement.{statement}
 use Rattle.block.proofs.checks.mode_of.Tie as tie

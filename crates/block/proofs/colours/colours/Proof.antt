@@ -6,14 +6,14 @@ use mathlib.Core.List.{[]}
 use lib.Dec.{eqb}
 use lib.ListN.{getD, replicate}
 use borrow.Author.Needs.{needs}
+use Rattle.lists.specs.Rows.{written}
+use Rattle.lists.specs.Digits.{bit}
+use Rattle.lists.proofs.Tests.{pick-elim}
+use Rattle.lists.proofs.Rows.{written-next, written-all, each-same}
 use Rattle.bptc.specs.declared.Rgb.{Rgb}
-use Rattle.bptc.specs.Rows.{written}
-use Rattle.bptc.specs.Digits.{bit}
 use Rattle.bptc.specs.Mode.{Mode, modeNumbered, largest}
 use Rattle.bptc.specs.Partition.{subsetOf}
 use Rattle.bptc.specs.Colour.{black}
-use Rattle.bptc.proofs.Tests.{pick-elim}
-use Rattle.bptc.proofs.Rows.{written-next, written-all, each-same}
 use Rattle.bptc.proofs.PartitionRule.{subset-two}
 use Rattle.bptc.proofs.Shading.{palettes-at}
 use Rattle.bptc_block.specs.Chapter.{colourAt, colours}

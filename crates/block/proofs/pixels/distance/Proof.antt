@@ -4,9 +4,9 @@ use native.Mathlib.Omega.{arith}
 use mathlib.Core.Path.{_≡_, refl, sym, ap₂, _∙_}
 use lib.ListN.{getD}
 use borrow.Author.Needs.{needs}
-use Rattle.bptc.specs.Rows.{sumTo, overPixels}
+use Rattle.lists.specs.Rows.{sumTo, overPixels}
+use Rattle.lists.proofs.Sums.{sumTo-suc}
 use Rattle.bptc.specs.Colour.{black, coloursOf, distSq}
-use Rattle.bptc.proofs.Sums.{sumTo-suc}
 use Rattle.block.proofs.pixels.distance.Statement.{statement}
 use Rattle.block.proofs.pixels.distance.Tie as tie
 

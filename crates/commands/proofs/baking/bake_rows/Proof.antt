@@ -1,6 +1,6 @@
 -- `commands::baking::bake_rows` meets its contract.
 use Prim.Native.Nat.{_-_, _≤_}
-use Rattle.commands.specs.Sizes.{Within}
+use Rattle.plates.specs.Sizes.{Within}
 use borrow.Author.Needs.{needs}
 use Rattle.commands.proofs.baking.bake_rows.Statement.{statement}
 use Rattle.commands.proofs.baking.bake_rows.Tie as tie

@@ -4,8 +4,8 @@ use native.Mathlib.Omega.{arith}
 use mathlib.Core.Path.{_≡_, refl, ap, _∙_}
 use lib.ListN.{length}
 use borrow.Author.Needs.{needs}
-use Rattle.bptc.specs.Rows.{written}
-use Rattle.bptc.proofs.Rows.{written-next, written-all}
+use Rattle.lists.specs.Rows.{written}
+use Rattle.lists.proofs.Rows.{written-next, written-all}
 use Rattle.figures.specs.declared.row.Row.{Row}
 use Rattle.figures.specs.Row.{measuredAt, errorsOf, firstFrom, firstOf, rowOf}
 use Rattle.figures.proofs.Declined.{row-next, row-within}

@@ -5,7 +5,7 @@ use mathlib.Core.Path.{_≡_, refl, ap, _∙_}
 use mathlib.Core.List.{List}
 use lib.ListN.{length}
 use borrow.Author.Needs.{needs}
-use Rattle.bptc.specs.Parts.{joined}
+use Rattle.lists.specs.Parts.{joined}
 use Rattle.bptc_block.specs.declared.Reading.{Reading}
 use Rattle.figures.specs.declared.row.Row.{Row}
 use Rattle.figures.specs.Row.{refusalAt, shownOf, firstFrom, firstOf, readRowOf}

@@ -4,8 +4,8 @@ use native.Mathlib.Omega.{arith}
 use mathlib.Core.Path.{_≡_, refl, _∙_}
 use lib.ListN.{length, getD}
 use borrow.Author.Needs.{needs}
-use Rattle.bptc.specs.Rows.{written}
-use Rattle.bptc.proofs.Rows.{written-next, written-all}
+use Rattle.lists.specs.Rows.{written}
+use Rattle.lists.proofs.Rows.{written-next, written-all}
 use Rattle.figures.specs.Shade.{shadeOf, shadesOf}
 use Rattle.figures.proofs.shade.shades.Statement.{statement}
 use Rattle.figures.proofs.shade.shades.Tie as tie

@@ -4,10 +4,10 @@ use native.Mathlib.Omega.{arith}
 use mathlib.Core.Path.{_≡_, refl}
 use lib.ListN.{replicate}
 use borrow.Author.Needs.{needs}
-use Rattle.bptc.specs.Rows.{written}
+use Rattle.lists.specs.Rows.{written}
+use Rattle.lists.proofs.Rows.{written-next}
 use Rattle.bptc.specs.Colour.{black}
 use Rattle.bptc.specs.Palette.{blendedRow}
-use Rattle.bptc.proofs.Rows.{written-next}
 use Rattle.palette.proofs.palettes.row.Statement.{statement}
 use Rattle.palette.proofs.palettes.row.Tie as tie
 

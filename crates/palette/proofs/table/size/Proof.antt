@@ -2,8 +2,8 @@
 use mathlib.Core.Path.{_∙_, ap}
 use lib.Count.{ones}
 use borrow.Author.Needs.{needs}
+use Rattle.lists.proofs.Digits.{ones-is}
 use Rattle.bptc.specs.Partition.{maskOf, sizeOf}
-use Rattle.bptc.proofs.Digits.{ones-is}
 use Rattle.bptc.proofs.PartitionRule.{placed}
 use Rattle.palette.proofs.table.size.Statement.{statement}
 use Rattle.palette.proofs.table.size.Tie as tie

@@ -1,11 +1,11 @@
 -- `proposals::baking::bake` meets its contract.
 use mathlib.Core.Path.{_≡_, ap, _∙_}
-use Rattle.bptc_block.specs.Rust.Compressed.{Compressed}
+use borrow.Author.Needs.{needs}
+use Rattle.bptc_block.specs.Compressed.{Compressed}
 use Rattle.chooser.specs.declared.Took.{Took}
 use Rattle.chooser.specs.Calls.{held}
 use Rattle.proposals.specs.Baking.{baked}
 use Rattle.proposals.proofs.Groups.{baked-held}
-use borrow.Author.Needs.{needs}
 use Rattle.proposals.proofs.baking.bake.Statement.{statement}
 use Rattle.proposals.proofs.baking.bake.Tie as tie
 

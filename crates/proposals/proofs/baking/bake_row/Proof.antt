@@ -5,10 +5,10 @@ use mathlib.Core.Path.{_≡_, refl, _∙_}
 use mathlib.Core.List.{_++_}
 use lib.ListN.{length, drop}
 use borrow.Author.Needs.{needs}
-use Rattle.bptc.specs.Rows.{written}
-use Rattle.bptc.specs.Parts.{joined}
-use Rattle.bptc.proofs.Rows.{written-next, written-all}
-use Rattle.bptc.proofs.Parts.{joined-next, joined-all}
+use Rattle.lists.specs.Rows.{written}
+use Rattle.lists.specs.Parts.{joined}
+use Rattle.lists.proofs.Rows.{written-next, written-all}
+use Rattle.lists.proofs.Parts.{joined-next, joined-all}
 use Rattle.proposals.specs.Baking.{baked, groupAt, bakedBlocks, bakedErrors}
 use Rattle.proposals.proofs.Groups.{baked-length}
 use Rattle.proposals.proofs.baking.bake_row.Statement.{statement}

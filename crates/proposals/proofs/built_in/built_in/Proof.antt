@@ -3,7 +3,7 @@ use Prim.Native.Nat.{_-_, _≤_}
 use native.Mathlib.Omega.{arith}
 use mathlib.Core.Path.{_≡_, refl, _∙_}
 use borrow.Author.Needs.{needs}
-use Rattle.bptc.specs.Parts.{joined}
+use Rattle.lists.specs.Parts.{joined}
 use Rattle.chooser.specs.Calls.{after}
 use Rattle.proposals.specs.Offers.{offers}
 use Rattle.proposals.specs.BuiltIn.{proposalsTo, proposalsOf}

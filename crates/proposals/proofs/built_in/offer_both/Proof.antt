@@ -30,7 +30,15 @@ offer-requires-2 c κs = search needs
 
 returns : tie.Need-returns
 unfolding after
-returns c = cc
+returns c =
+    rw (
+      c .before .offer2 .ensures,
+      c .before .before .proposal2 .ensures,
+      c .before .before .before .before .offer .ensures,
+      c .before .before .before .before .before .proposal .ensures,
+      c .before .before .before .before .before .before .corners2 .ensures,
+      c .before .before .before .before .before .before .before .before .corners .ensures,
+    )
 
 pub offer-both-spec : {M : Type 1} → statement M
 offer-both-spec =

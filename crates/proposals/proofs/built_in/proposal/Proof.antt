@@ -21,7 +21,14 @@ divided-requires-4 c κs = search needs
 
 returns : tie.Need-returns
 unfolding between
-returns c = cc
+returns c =
+    rw (
+      c .before .before .before .divided .ensures,
+      c .before .before .divided2 .ensures,
+      c .before .divided3 .ensures,
+      c .divided4 .ensures,
+      c .before .before .before .before .step .ensures .0,
+    )
 
 pub proposal-spec : {M : Type 1} → statement M
 proposal-spec =

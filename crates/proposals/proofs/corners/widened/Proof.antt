@@ -24,7 +24,15 @@ greater-requires-3 c κs = search needs
 
 returns : tie.Need-returns
 unfolding widened
-returns c = cc
+returns c =
+    rw (
+      c .before .before .before .before .before .lesser .ensures,
+      c .before .before .before .before .lesser2 .ensures,
+      c .before .before .before .lesser3 .ensures,
+      c .before .before .greater .ensures,
+      c .before .greater2 .ensures,
+      c .greater3 .ensures,
+    )
 
 pub widened-spec : {M : Type 1} → statement M
 widened-spec =

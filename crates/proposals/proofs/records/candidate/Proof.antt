@@ -33,7 +33,7 @@ p-bits-requires c κs = search needs
 
 returns : tie.Need-returns
 unfolding candidateIn
-returns c = cc
+returns c = rw (c .before .before .before .endpoints .ensures, c .p-bits .ensures)
 
 pub candidate-spec : {M : Type 1} → statement M
 candidate-spec =

@@ -52,7 +52,13 @@ endpoint-requires-4 : tie.Need-endpoint-requires-4
 endpoint-requires-4 c κs = search needs
 
 returns : tie.Need-returns
-returns c = cc
+returns c =
+    rw (
+      c .before .before .before .before .before .before .endpoint .ensures,
+      c .before .before .before .before .endpoint2 .ensures,
+      c .before .before .endpoint3 .ensures,
+      c .endpoint4 .ensures,
+    )
 
 pub endpoints-spec : {M : Type 1} → statement M
 endpoints-spec =

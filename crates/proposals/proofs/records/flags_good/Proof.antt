@@ -10,10 +10,10 @@ use mathlib.Core.Logic.{⊎-elim}
 use lib.ListN.{length, take}
 use lib.Seq.{take-all}
 use borrow.Author.Needs.{needs}
-use Rattle.bptc.specs.Rows.{upFrom}
-use Rattle.bptc.specs.Tests.{and, all}
-use Rattle.bptc.proofs.Rows.{length-upFrom, getD-upFrom}
-use Rattle.bptc.proofs.Tests.{and-passes, and-stops, all-next}
+use Rattle.lists.specs.Rows.{upFrom}
+use Rattle.lists.specs.Tests.{and, all}
+use Rattle.lists.proofs.Rows.{length-upFrom, getD-upFrom}
+use Rattle.lists.proofs.Tests.{and-passes, and-stops, all-next}
 use Rattle.proposals.specs.Records.{flagGood}
 use Rattle.proposals.proofs.records.flags_good.Statement.{statement}
 use Rattle.proposals.proofs.records.flags_good.Tie as tie

@@ -4,8 +4,8 @@ use native.Mathlib.Omega.{arith}
 use mathlib.Core.Path.{_≡_, refl, _∙_}
 use lib.ListN.{replicate}
 use borrow.Author.Needs.{needs}
-use Rattle.bptc.specs.Rows.{written}
-use Rattle.bptc.proofs.Rows.{written-next, written-all}
+use Rattle.lists.specs.Rows.{written}
+use Rattle.lists.proofs.Rows.{written-next, written-all}
 use Rattle.rust_answers.specs.Recording.{indexIn, indicesIn}
 use Rattle.rust_answers.proofs.recording.indices.Statement.{statement}
 use Rattle.rust_answers.proofs.recording.indices.Tie as tie

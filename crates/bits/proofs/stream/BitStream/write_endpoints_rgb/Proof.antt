@@ -2,7 +2,7 @@
 use borrow.Author.Needs.{needs}
 use Prim.Native.Nat.{_+_, _*_, _≤_}
 use native.Mathlib.Omega.{arith}
-use Rattle.bptc_block.specs.Bits.{halves}
+use Rattle.lists.specs.Bits.{halves}
 use Rattle.bptc_block.proofs.Widths.{channel-steps}
 use Rattle.bits.proofs.stream.BitStream.write_endpoints_rgb.Statement.{statement}
 use Rattle.bits.proofs.stream.BitStream.write_endpoints_rgb.Tie as tie

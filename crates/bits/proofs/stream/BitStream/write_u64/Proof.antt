@@ -4,9 +4,9 @@ use Prim.Native.Nat.{_^_, _≤_}
 use native.Mathlib.Nat.{zero-add}
 use native.Mathlib.Omega.{arith}
 use lib.Pow.{pow-mono}
-use Rattle.bptc_block.proofs.Halves.{above-lt, low-room, low-write, high-room, high-write}
 use mathlib.Core.Path.{_≡_, refl}
-use Rattle.bptc_block.specs.Bits.{halves}
+use Rattle.lists.specs.Bits.{halves}
+use Rattle.lists.proofs.Halves.{above-lt, low-room, low-write, high-room, high-write}
 use Rattle.bits.proofs.stream.BitStream.write_u64.Statement.{statement}
 use Rattle.bits.proofs.stream.BitStream.write_u64.Tie as tie
 

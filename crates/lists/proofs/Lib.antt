@@ -1,0 +1,10 @@
+pub mod Tests
+pub mod Tables
+pub mod Rows
+pub mod Parts
+pub mod Sums
+pub mod Least
+pub mod Digits
+pub mod Bits
+pub mod Bytes
+pub mod Halves
