@@ -29,7 +29,7 @@ use groups::across;
 pub const COLUMNS: usize = 4096;
 
 // A photograph and the plate of its blocks, or none.
-pub struct Pair {
+pub(crate) struct Pair {
     pub ok: bool,
     pub photo: Photo,
     pub plate: Plate,
@@ -42,7 +42,7 @@ pub struct Counted {
 }
 
 // Opens a photograph and its plate, or says what is wrong with them.
-pub fn open_pair(photo_path: &[u8], plate_path: &[u8]) -> Pair
+pub(crate) fn open_pair(photo_path: &[u8], plate_path: &[u8]) -> Pair
     ensures { λ r. ⌜ (r .photo .pixels ≤ 4096) × Sized (r .photo .width) (r .photo .height) ⌝ }
 {
     let photo = open_photo(photo_path);
@@ -72,7 +72,7 @@ pub fn open_pair(photo_path: &[u8], plate_path: &[u8]) -> Pair
 }
 
 // Closes both.
-pub fn close_pair(pair: Pair) {
+pub(crate) fn close_pair(pair: Pair) {
     let photo = pair.photo;
     let plate = pair.plate;
     libc::close(photo.fd);
@@ -80,7 +80,7 @@ pub fn close_pair(pair: Pair) {
 }
 
 // The line of a block that is not read.
-pub fn fail_block(path: &[u8], refusal: u8, place: Place) {
+pub(crate) fn fail_block(path: &[u8], refusal: u8, place: Place) {
     fail_of(path);
     say_block(place);
     if refusal == 8 {
@@ -132,7 +132,7 @@ fn count_row(
 }
 
 // Reads a row of the photograph and of the plate, measures its blocks and counts their errors.
-pub fn measure_next(
+pub(crate) fn measure_next(
     photo_path: &[u8],
     plate_path: &[u8],
     pair: Pair,

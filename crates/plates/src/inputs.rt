@@ -7,7 +7,7 @@ use libc::SEEK_END;
 use libc::SEEK_SET;
 
 // Whether an open file is a regular one; where it is not, says so.
-pub fn is_regular(path: &[u8], status: Status) -> bool {
+pub(crate) fn is_regular(path: &[u8], status: Status) -> bool {
     if status.folder {
         fail(path, b"is a folder; expected a file");
     } else if !status.regular {
@@ -31,18 +31,18 @@ pub fn open(path: &[u8]) -> i32 {
 }
 
 // The length of a file, or none.
-pub struct Length {
+pub(crate) struct Length {
     pub ok: bool,
     pub bytes: u64,
 }
 
 // A number, or 0 where it is negative.
-pub fn not_negative(n: i64) -> u64 {
+pub(crate) fn not_negative(n: i64) -> u64 {
     if n > 0 { n as u64 } else { 0 }
 }
 
 // The length of an open file, or none after the line of a mistake.
-pub fn length_of(path: &[u8], fd: i32) -> Length {
+pub(crate) fn length_of(path: &[u8], fd: i32) -> Length {
     let end = libc::lseek(fd, 0, SEEK_END);
     if end < 0 {
         fail(path, b"has no length; expected a file");
@@ -54,7 +54,7 @@ pub fn length_of(path: &[u8], fd: i32) -> Length {
 }
 
 // Goes to a place of an open file.
-pub fn go_to(path: &[u8], fd: i32, place: i64) -> bool {
+pub(crate) fn go_to(path: &[u8], fd: i32, place: i64) -> bool {
     if libc::lseek(fd, place, SEEK_SET) == place {
         return true;
     }

@@ -11,4 +11,4 @@ pub mod reading;
 pub mod report;
 pub mod said;
 pub mod showing;
-pub mod table;
+mod table;

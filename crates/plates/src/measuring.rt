@@ -54,7 +54,7 @@ fn show_row(
 }
 
 // Measures a plate row by row.
-pub fn measure_rows(
+pub(crate) fn measure_rows(
     photo_path: &[u8],
     plate_path: &[u8],
     pair: Pair,

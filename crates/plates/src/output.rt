@@ -132,7 +132,7 @@ pub fn keep(path: &[u8], fd: i32) -> bool {
 }
 
 // Writes the header of a picture.
-pub fn write_header(path: &[u8], fd: i32, width: usize, height: usize) -> bool
+pub(crate) fn write_header(path: &[u8], fd: i32, width: usize, height: usize) -> bool
     requires { ⌜ Sized width height ⌝ }
 {
     let mut bytes = [0u8; 32];

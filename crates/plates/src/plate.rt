@@ -14,14 +14,14 @@ use groups::number_at;
 pub const ROW: usize = 65536;
 
 // A plate that is open for reading and how many blocks it has, or none.
-pub struct Plate {
+pub(crate) struct Plate {
     pub ok: bool,
     pub fd: i32,
     pub blocks: u64,
 }
 
 // No plate.
-pub fn no_plate() -> Plate
+pub(crate) fn no_plate() -> Plate
     ensures { λ r. ⌜ r .blocks < 1152921504606846976 ⌝ }
 {
     Plate {
@@ -40,7 +40,7 @@ fn fail_part(path: &[u8], has: u64) {
 }
 
 // Opens a plate, or says what is wrong with it.
-pub fn open_plate(path: &[u8]) -> Plate
+pub(crate) fn open_plate(path: &[u8]) -> Plate
     ensures { λ r. ⌜ r .blocks < 1152921504606846976 ⌝ }
 {
     let fd = open(path);
@@ -63,7 +63,7 @@ pub fn open_plate(path: &[u8]) -> Plate
 }
 
 // Whether a plate has the blocks of a picture of this size.
-pub fn fits(path: &[u8], plate: Plate, width: usize, height: usize) -> bool
+pub(crate) fn fits(path: &[u8], plate: Plate, width: usize, height: usize) -> bool
     requires { ⌜ (width ≤ 16384) × (height ≤ 16384) ⌝ }
 {
     let expected = number_at(across(height), across(width), 0) as u64;
@@ -84,7 +84,7 @@ pub fn fits(path: &[u8], plate: Plate, width: usize, height: usize) -> bool
 }
 
 // Reads the next blocks of a plate.
-pub fn read_blocks(path: &[u8], fd: i32, blocks: &mut [u8]) -> bool {
+pub(crate) fn read_blocks(path: &[u8], fd: i32, blocks: &mut [u8]) -> bool {
     if io::read_full(fd, blocks) == blocks.len() {
         return true;
     }

@@ -26,7 +26,7 @@ pub fn fail(what: &[u8], why: &[u8]) {
 }
 
 // The line of a call of the system that failed: what could not be done, and the reason that errno has.
-pub fn fail_by_errno(what: &[u8], why: &[u8]) {
+pub(crate) fn fail_by_errno(what: &[u8], why: &[u8]) {
     let error = os::errno();
     fail_of(what);
     say(why);
@@ -36,7 +36,7 @@ pub fn fail_by_errno(what: &[u8], why: &[u8]) {
 }
 
 // The reason for which a call of the system failed.
-pub fn say_reason(error: i32) {
+pub(crate) fn say_reason(error: i32) {
     match error {
         libc::ENOENT => say(b"no such file or folder"),
         libc::EACCES | libc::EPERM => say(b"permission denied"),

@@ -16,10 +16,10 @@ use text::line::put;
 use text::line::put_decimal;
 
 // The bytes of lines that are written at once.
-pub const TEXT: usize = 65536;
+pub(crate) const TEXT: usize = 65536;
 
 // Where there is no room for one more line.
-pub const FULL: usize = 65024;
+pub(crate) const FULL: usize = 65024;
 
 // A line: five numbers with a space between.
 fn put_entry(
@@ -46,7 +46,7 @@ fn put_entry(
 }
 
 // Writes the lines where there is no room for one more, and answers where the next begins.
-pub fn flushed(text: &[u8; TEXT], at: usize) -> usize
+pub(crate) fn flushed(text: &[u8; TEXT], at: usize) -> usize
     requires { ⌜ Counts at (now text) ⌝ }
     ensures { λ r. ⌜ Counts r (now (text .entry)) ⌝ }
 {
@@ -70,7 +70,7 @@ fn fields(block: &[u8]) -> Reading {
 }
 
 // The lines of a row of blocks.
-pub fn put_row(row: usize, blocks: &[u8], errors: &[u32])
+pub(crate) fn put_row(row: usize, blocks: &[u8], errors: &[u32])
     requires { ⌜ (length (now blocks) ≡ 16 * length (now errors)) × (length (now errors) ≤ 4096) ⌝ }
 {
     let mut text = [0u8; TEXT];
@@ -96,7 +96,7 @@ pub fn put_row(row: usize, blocks: &[u8], errors: &[u32])
 }
 
 // Keeps the worst of a row of blocks.
-pub fn insert_row(row: usize, blocks: &[u8], errors: &[u32], keys: &mut [u64])
+pub(crate) fn insert_row(row: usize, blocks: &[u8], errors: &[u32], keys: &mut [u64])
     requires { ⌜ (length (now blocks) ≡ 16 * length (now errors)) × (length (now errors) ≤ 4096) × (row < 4096) ⌝ }
 {
     let columns = errors.len();
@@ -129,7 +129,7 @@ fn put_key(text: &mut [u8; TEXT], at: usize, key: u64, columns: u64) -> usize
 }
 
 // The lines of the worst blocks, the worst first.
-pub fn put_worst(keys: &[u64], columns: usize)
+pub(crate) fn put_worst(keys: &[u64], columns: usize)
     requires { ⌜ 0 < columns ⌝ }
 {
     let mut text = [0u8; TEXT];
