@@ -1,4 +1,4 @@
-// Prints what the palette crate gives for worked examples; the gate holds it to the file `stdout`.
+// Prints what the crates palette and search give for worked examples; the gate holds it to the file `stdout`.
 ghost use mathlib.Core.Path.{_≡_};
 ghost use Prim.Native.Nat.{_<_, _≤_};
 ghost use lib.ListN.{length};
