@@ -25,18 +25,32 @@ def row(colours, a, b):
     return [tuple(((64 - w) * x + w * y + 32) >> 6 for x, y in zip(a, b)) for w in WEIGHTS[colours]]
 
 
-def search(mode, bits, colours, ends, p_bits, subsets):
-    """For each subset the indices of its pixels, 0 for each other, and its error."""
-    both = [tuple(shown(bits, e, p) for e in end) for end, p in zip(ends, p_bits)]
+def nearest(bits, colours, ends, subsets, s, p_bits):
+    """The indices and the error of the pixels of subset s, whose two endpoints have these p-bits."""
+    a, b = (tuple(shown(bits, e, p) for e in end) for end, p in zip(ends[2 * s:2 * s + 2], p_bits))
+    colour, indices, error = row(colours, a, b), {}, 0
+    for i, pixel in enumerate(PIXELS):
+        if subsets[i] == s:
+            apart = [sum((x - y) ** 2 for x, y in zip(pixel, c)) for c in colour]
+            indices[i] = apart.index(min(apart))
+            error += min(apart)
+    return indices, error
+
+
+def search(mode, bits, colours, ends, choices, subsets):
+    """The indices, the p-bits as one number and the error, where each subset has the first of its choices of least error."""
+    found, number, at, error = {}, 0, 0, 0
     for s in (0, 1):
-        colour = row(colours, both[2 * s], both[2 * s + 1])
-        indices, error = [0] * 16, 0
-        for i, pixel in enumerate(PIXELS):
-            if subsets[i] == s:
-                apart = [sum((x - y) ** 2 for x, y in zip(pixel, c)) for c in colour]
-                indices[i] = apart.index(min(apart))
-                error += min(apart)
-        print('mode', mode, 'subset', s, ''.join(map(str, indices)), error)
+        tried = [nearest(bits, colours, ends, subsets, s, both) for both in choices[s]]
+        least = min(e for _, e in tried)
+        k = [e for _, e in tried].index(least)
+        found.update(tried[k][0])
+        error += least
+        own = choices[s][k][:1] if mode == 1 else choices[s][k]
+        for bit in own:
+            number |= bit << at
+            at += 1
+    print('mode', mode, ''.join(str(found[i]) for i in range(16)), number, error)
 
 
 for e, p in ((63, 1), (63, 0), (0, 1)):
@@ -47,5 +61,7 @@ assert len(TEXTS) == 64
 for part, text in enumerate(TEXTS):
     subsets = [int(d) for d in text if d != '-']
     print('partition', part, ''.join(map(str, subsets)), sum(subsets), subsets.index(1), text.index('-'))
-    search(1, 6, 8, ENDS1, [part >> s & 1 for s in (0, 0, 1, 1)], subsets)
-    search(3, 7, 4, ENDS3, [part >> k & 1 for k in range(4)], subsets)
+    search(1, 6, 8, ENDS1, [[(part >> s & 1,) * 2] for s in (0, 1)], subsets)
+    search(3, 7, 4, ENDS3, [[(part >> 2 * s & 1, part >> 2 * s + 1 & 1)] for s in (0, 1)], subsets)
+    search(1, 6, 8, ENDS1, [[(0, 0), (1, 1)]] * 2, subsets)
+    search(3, 7, 4, ENDS3, [[(0, 0), (0, 1), (1, 0), (1, 1)]] * 2, subsets)

@@ -1,4 +1,3 @@
-pub mod Capped
 pub mod Masked
 pub mod Accepted
 pub mod PartBytes

@@ -11,17 +11,18 @@ use lib.ListN.{replicate}
 use lib.Pow.{pow-pos, pow-sub-lt, lt-of-le-ones, shr-lt, shr-mod}
 use lib.Pow as P
 use borrow.Author.Tests.{ne-eqb, eqb-true, eqb-false, leb-true, leb-false, le-leb}
-use Rattle.lists.specs.Tests.{and, all}
+use Rattle.lists.specs.Tests.{pick, and, all}
 use Rattle.lists.specs.Rows.{sum}
 use Rattle.lists.specs.Bits.{split, join}
 use Rattle.lists.proofs.Tests.{and-true, and-last}
 use Rattle.bptc.specs.Mode.{Mode, Known, modeNumbered, largest}
+use Rattle.bptc_block.specs.declared.PBits.the-variants.{Free, Fixed}
 use Rattle.bptc_block.specs.Refusal.{within, inRange, checkCandidate, checkIndices}
 use Rattle.bptc_block.specs.PackCall.{fixedAt}
 use Rattle.bptc_block.proofs.Modes.{lawful}
 use Rattle.bptc_block.proofs.Refusals.{is-mode}
 use Rattle.bptc_rust.proofs.WordFields.{few-bits}
-use Rattle.bc7_c.specs.Numbers.{endOf, endsOf, indicesOf, packedOf}
+use Rattle.bc7_c.specs.Numbers.{endOf, endsOf, indicesOf, packedOf, candidateOf}
 use Rattle.bc7_c.specs.Masks.{above, endWidths, over, checkMasked}
 
 -- a sum of two parts is 0 where both are
@@ -111,3 +112,20 @@ masked-checked mode partition e0 e1 e2 e3 p indices channels top index known h0 
     let bits : m .channelBits ≤ 8 = omega (arith, lawful mode .shades .most) in
     let few : m .indexBits ≤ 4 = omega (arith, few-bits mode) in
     rw (c, t, i, is-mode mode known, ends-masked (m .channelBits) e0 e1 e2 e3 bits h0 h1 h2 h3, indices-masked (m .indexBits) indices few h)
+
+-- sixteen indices 0 pass
+zeros-pass : (mode : ℕ) → checkIndices mode (indicesOf 0) 0 ≡ 0
+unfolding split
+zeros-pass mode = rw (le-leb 0 (largest (modeNumbered mode)) (omega arith))
+
+-- checks 3 to 6 of a candidate: free p-bits pass as 0 does
+pub unindexed : (mode partition e0 e1 e2 e3 p free : ℕ) →
+    checkCandidate (fixedAt mode (packedOf partition e0 e1 e2 e3 (pick (eqb free 0) p 0) 0)) (checkIndices mode (indicesOf 0) 0)
+    ≡ checkCandidate (candidateOf mode partition e0 e1 e2 e3 p free) 0
+unfolding checkCandidate
+unindexed mode partition e0 e1 e2 e3 p free = rw (zeros-pass mode) (go (eqb free 0))
+  where
+    go : (t : Bool) → checkCandidate (fixedAt mode (packedOf partition e0 e1 e2 e3 (pick t p 0) 0)) 0
+        ≡ checkCandidate (record { mode = mode; partition = partition; ends = endsOf e0 e1 e2 e3; p = pick t (Fixed p) Free }) 0
+    go true = refl
+    go false = rw (le-leb 0 (2 ^ modeNumbered mode .pBits - 1) (omega arith))

@@ -1,4 +1,4 @@
--- The checks of `pack` on the numbers of C, many fields at once: a mask has the bits that must be 0.
+-- The checks of the numbers of C, many fields at once: a mask has the bits that must be 0.
 use Prim.Native.Nat.{ℕ, _-_, _^_}
 use mathlib.Core.List.{List, [], _∷_, map}
 use lib.Bits.{bitAnd, bitOr}

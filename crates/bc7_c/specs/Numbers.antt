@@ -1,14 +1,9 @@
 -- The numbers that C hands over, any of their type, and what they stand for.
 use Prim.Native.Nat.{ℕ, _+_, _*_, _/_, _%_, _^_}
-use mathlib.Core.List.{List, [], _∷_, map}
-use lib.Dec.{ltb}
+use mathlib.Core.List.{List, [], _∷_}
 use lib.ListN.{replicate}
-use Rattle.lists.specs.Tests.{pick}
 use Rattle.lists.specs.Bits.{split}
 use Rattle.bptc.specs.declared.Rgb.{Rgb}
-use Rattle.bptc.specs.Colour.{each}
-use Rattle.bptc_block.specs.declared.PBits.{PBits}
-use Rattle.bptc_block.specs.declared.PBits.the-variants.{Free, Fixed}
 use Rattle.bptc_block.specs.declared.Candidate.{Candidate}
 use Rattle.bptc_block.specs.declared.Fields.{Fields}
 use Rattle.bptc_block.specs.Fields.{pBitsOf}
@@ -36,17 +31,3 @@ packedOf partition e0 e1 e2 e3 p indices = record { partition = partition; ends 
 -- a refusal and an error as one number, the error in the 32 lowest bits
 unfoldable pub answered : ℕ → ℕ → ℕ
 answered refusal error = refusal * 2 ^ 32 + error
-
--- the byte that stands for a number: 255 for any that is no byte
-unfoldable pub capped : ℕ → ℕ
-capped n = pick (ltb n 256) n 255
-
--- such p-bits
-abbrev pub cappedBits : PBits → PBits
-cappedBits Free = Free
-cappedBits (Fixed p) = Fixed (capped p)
-
--- a candidate in bytes
-abbrev pub cappedCandidate : Candidate → Candidate
-cappedCandidate c =
-    record { mode = capped (c .mode); partition = capped (c .partition); ends = map (each capped) (c .ends); p = cappedBits (c .p) }

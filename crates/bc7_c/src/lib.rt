@@ -4,24 +4,24 @@ ghost use Rattle.bptc_block.specs.PackCall.{packOf, packInto};
 ghost use Rattle.bptc_block.specs.FinishCall.{finishInto};
 ghost use Rattle.bc7_c.specs.Numbers.{candidateOf, packedOf};
 ghost use Rattle.bc7_c.specs.Calls.{finishAnswer, measureAnswer, startAnswer, startPart, offerAnswer, offerPart, takeAnswer, takeBlock, readAnswer, readPixels, readFields};
+use crate::checks::candidate_refusal;
+use crate::checks::pack_refusal;
 use crate::numbers::answer;
-use crate::numbers::candidate;
-use crate::packing::pack_refusal;
+use crate::numbers::p_bits;
 use crate::parts::chooser_in;
 use crate::parts::write_chooser;
 use crate::parts::write_fields;
-use bits::Words;
 use bits::indexes::narrowed;
 use bits::writing::write_words;
-use block::finish;
 use block::measure;
 use block::read;
 use chooser::Chooser;
+use finishing::words::finish_words;
 use palette::Mode1;
 use palette::Mode3;
 
+mod checks;
 mod numbers;
-mod packing;
 mod parts;
 
 // The call `pack`: sixteen indices of four bits each. Gives the refusal's number, or 0.
@@ -52,13 +52,17 @@ pub extern "C" fn bc7_pack(
         1 => narrowed(Mode1::INDEX_BITS, indices),
         _ => narrowed(Mode3::INDEX_BITS, indices),
     };
-    let w = Words {
-        partition: partition as u8,
-        ends: [e0, e1, e2, e3],
-        p: p as u8,
+    write_words(
+        mode as u8,
+        partition as u8,
+        e0,
+        e1,
+        e2,
+        e3,
+        p as u8,
         indexes,
-    };
-    write_words(mode as u8, w, block);
+        block,
+    );
     0
 }
 
@@ -79,12 +83,25 @@ pub extern "C" fn bc7_finish(
     ensures answer { λ r. ⌜ r ≡ finishAnswer (now (pixels .entry)) (candidateOf mode partition e0 e1 e2 e3 p free) (now (block .entry)) ⌝ }
     ensures part { λ _. ⌜ now (block .exit) ≡ finishInto (now (pixels .entry)) (candidateOf mode partition e0 e1 e2 e3 p free) (now (block .entry)) ⌝ }
 {
-    let finished = finish(
+    if pixels.len() != 48 {
+        return answer(1, 0);
+    }
+    if block.len() != 16 {
+        return answer(2, 0);
+    }
+    let declined = candidate_refusal(mode, partition, e0, e1, e2, e3, p, free);
+    if declined != 0 {
+        return answer(declined, 0);
+    }
+    let error = finish_words(
         pixels,
-        candidate(mode, partition, e0, e1, e2, e3, p, free),
+        mode as u8,
+        partition as u8,
+        [e0, e1, e2, e3],
+        p_bits(p, free),
         block,
     );
-    answer(finished.refusal, finished.error)
+    answer(0, error)
 }
 
 // The call `start`, with the chooser into a part of 68 bytes. Gives the refusal's number, or 0.
@@ -121,11 +138,19 @@ pub extern "C" fn bc7_offer(
     if chooser.len() != 68 {
         return 255;
     }
+    let declined = candidate_refusal(mode, partition, e0, e1, e2, e3, p, free);
+    if declined != 0 {
+        return declined;
+    }
     let held = chooser_in(chooser);
-    let offered = held.offer(candidate(mode, partition, e0, e1, e2, e3, p, free));
-    let kept = offered.chooser;
+    let kept = held.accept(
+        mode as u8,
+        partition as u8,
+        [e0, e1, e2, e3],
+        p_bits(p, free),
+    );
     write_chooser(kept, chooser);
-    offered.refusal as u32
+    0
 }
 
 // The call `take`, from the chooser in such a part. Gives the refusal above the error.
@@ -139,7 +164,7 @@ pub extern "C" fn bc7_take(chooser: &[u8], block: &mut [u8]) -> u64
     }
     let held = chooser_in(chooser);
     let took = held.take(block);
-    answer(took.answer.refusal, took.answer.error)
+    answer(took.answer.refusal as u32, took.answer.error)
 }
 
 // The call `read`, with the fields into a part of 31 bytes. Gives the refusal's number, or 0.
@@ -167,5 +192,5 @@ pub extern "C" fn bc7_measure(block: &[u8], pixels: &[u8]) -> u64
     ensures { λ r. ⌜ r ≡ measureAnswer (now (block .entry)) (now (pixels .entry)) ⌝ }
 {
     let measured = measure(block, pixels);
-    answer(measured.refusal, measured.error)
+    answer(measured.refusal as u32, measured.error)
 }

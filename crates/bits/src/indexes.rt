@@ -2,12 +2,14 @@
 ghost use mathlib.Core.Path.{_≡_};
 ghost use Prim.Native.Nat.{ℕ, _+_, _-_, _*_, _/_, _^_, _<_, _≤_};
 ghost use lib.Bits.{bitAnd, bitOr};
-ghost use lib.Dec.{eqb};
 ghost use lib.ListN.{getD, length, replicate};
-ghost use Rattle.lists.specs.Tests.{pick};
 ghost use Rattle.lists.specs.Bits.{split};
+ghost use Rattle.bptc.specs.Partition.{entryOf};
 ghost use Rattle.bptc_rust.specs.IndexList.{index-list};
-ghost use Rattle.bptc_rust.specs.CompressedIndexList.{ensure-msb-zero, compress-single-index, bits-repeat2-u16, bits-repeat3-u16, compress-p2};
+ghost use Rattle.bptc_rust.specs.CompressedIndexList.{ensure-msb-zero, compress-single-index, compress-p2};
+ghost use Rattle.bptc_rust.specs.Subset2Map.{PARTITION-SET-2};
+use partitions::entry2;
+use partitions::entry3;
 
 // Indexes, and whether those of a subset were flipped.
 pub(crate) struct Ensured {
@@ -62,38 +64,18 @@ pub fn narrowed(bits: u32, indices: u64) -> u64
     closed_up(eight, 0x0000_0000_FFFF_FFFF, 0xFFFF_FFFF_0000_0000, 8 * by)
 }
 
-// Each of sixteen bits twice.
-fn bits_repeat2_u16(x: u16) -> u32
-    ensures { λ r. ⌜ r ≡ bits-repeat2-u16 x ⌝ }
-{
-    let x0 = x as u32;
-    let x1 = (x0 | (x0 << 8)) & 0x00FF_00FF;
-    let x2 = (x1 | (x1 << 4)) & 0x0F0F_0F0F;
-    let x3 = (x2 | (x2 << 2)) & 0x3333_3333;
-    let x4 = (x3 | (x3 << 1)) & 0x5555_5555;
-    x4 | (x4 << 1)
-}
-
-// Each of sixteen bits three times.
-fn bits_repeat3_u16(x: u16) -> u64
-    ensures { λ r. ⌜ r ≡ bits-repeat3-u16 x ⌝ }
-{
-    let x0 = x as u64;
-    let x1 = (x0 | (x0 << 16)) & 0x0000_FF00_00FF;
-    let x2 = (x1 | (x1 << 8)) & 0x00F0_0F00_F00F;
-    let x3 = (x2 | (x2 << 4)) & 0x0C30_C30C_30C3;
-    let x4 = (x3 | (x3 << 2)) & 0x2492_4924_9249;
-    x4 | (x4 << 1) | (x4 << 2)
-}
-
-// All bits of the indexes of subset 1.
-fn subset_mask(bits: u32, mask: u16) -> u64
-    ensures { λ r. ⌜ r ≡ pick (eqb bits 2) (bits-repeat2-u16 mask) (bits-repeat3-u16 mask) ⌝ }
+// The bits of subset 1's indexes and its anchor above them, where an index has two bits or three.
+// Requires a partition of the table.
+fn entry(bits: u32, partition: usize) -> u64
+    requires some { ⌜ 2 ≤ bits ⌝ }
+    requires few { ⌜ bits ≤ 3 ⌝ }
+    requires inside { ⌜ partition < 64 ⌝ }
+    ensures { λ r. ⌜ r ≡ entryOf bits partition ⌝ }
 {
     if bits == 2 {
-        bits_repeat2_u16(mask) as u64
+        entry2(partition)
     } else {
-        bits_repeat3_u16(mask)
+        entry3(partition)
     }
 }
 
@@ -143,17 +125,19 @@ fn compress_single_index(bits: u32, indexes: u64, index: u32) -> u64
 }
 
 // Flips the subsets whose anchors ask for it, pixel 0 first, and takes the anchors' top bits out.
-pub(crate) fn compress_p2(bits: u32, indexes: u64, mask: u16, anchor: u32) -> CompressedIndexList
-    requires some { ⌜ 0 < bits ⌝ }
+pub(crate) fn compress_p2(bits: u32, indexes: u64, partition: usize) -> CompressedIndexList
+    requires some { ⌜ 2 ≤ bits ⌝ }
     requires few { ⌜ bits ≤ 3 ⌝ }
-    requires inside { ⌜ anchor < 16 ⌝ }
-    ensures same { λ r. ⌜ r .indexes ≡ compress-p2 bits indexes (record { subset-indexes = mask; fixup-index-2 = anchor }) .0 .compressed-indexes ⌝ }
-    ensures first { λ r. ⌜ r .swap0 ≡ compress-p2 bits indexes (record { subset-indexes = mask; fixup-index-2 = anchor }) .1 ⌝ }
-    ensures second { λ r. ⌜ r .swap1 ≡ compress-p2 bits indexes (record { subset-indexes = mask; fixup-index-2 = anchor }) .2 ⌝ }
+    requires inside { ⌜ partition < 64 ⌝ }
+    ensures same { λ r. ⌜ r .indexes ≡ compress-p2 bits indexes (PARTITION-SET-2 partition) .0 .compressed-indexes ⌝ }
+    ensures first { λ r. ⌜ r .swap0 ≡ compress-p2 bits indexes (PARTITION-SET-2 partition) .1 ⌝ }
+    ensures second { λ r. ⌜ r .swap1 ≡ compress-p2 bits indexes (PARTITION-SET-2 partition) .2 ⌝ }
 {
-    let mask_s1 = subset_mask(bits, mask);
-    let all = (1u64 << (bits * 16)) - 1;
-    let e0 = ensure_msb_zero(bits, indexes, 0, mask_s1 ^ all);
+    let entry = entry(bits, partition);
+    let size = 1u64 << (bits * 16);
+    let mask_s1 = entry % size;
+    let anchor = (entry / size) as u32;
+    let e0 = ensure_msb_zero(bits, indexes, 0, mask_s1 ^ (size - 1));
     let e1 = ensure_msb_zero(bits, e0.indexes, anchor, mask_s1);
     let shorter = compress_single_index(bits, e1.indexes, anchor);
     CompressedIndexList {

@@ -1,13 +1,12 @@
 // Fields as the bits of a block: what the Rust's Compressed::mode1 and mode3 do.
 ghost use mathlib.Core.Path.{_≡_};
 ghost use Prim.Native.Nat.{ℕ, _+_, _*_, _/_, _%_, _^_, _<_};
-ghost use mathlib.Core.List.{map};
+ghost use mathlib.Core.List.{[], _∷_, map};
 ghost use lib.ListN.{getD, length};
 ghost use Rattle.lists.specs.Tests.{pick};
 ghost use Rattle.lists.specs.Bits.{halves};
 ghost use Rattle.lists.specs.Bytes.{bytes};
 ghost use Rattle.bptc.specs.Mode.{mode1, mode3, modeNumbered};
-ghost use Rattle.bptc.specs.Partition.{maskOf, anchorOf};
 ghost use Rattle.bptc.specs.Pixels.{pixelWord, pixelOf};
 ghost use Rattle.bptc_block.specs.Fields.{Plain, wordFields};
 ghost use Rattle.bptc_block.specs.Packed.{packed};
@@ -24,16 +23,7 @@ use bptc_block::Words;
 use palette::Mode1;
 use palette::Mode3;
 use palette::colour::pixel;
-use palette::colour::wide;
-use palette::table::anchor;
-use palette::table::mask;
-
-// A colour as one number, red lowest.
-fn word(c: Rgb) -> u32
-    ensures { λ r. ⌜ r ≡ pixelWord c ⌝ }
-{
-    wide(c.r) + wide(c.g) * 256 + wide(c.b) * 65536
-}
+use palette::colour::word;
 
 // The first of two colours, or the second where they are swapped.
 fn turned(swap: bool, a: u32, b: u32) -> Rgb
@@ -66,16 +56,14 @@ fn turned_bits(swap: bool, p: u8) -> u8
     if swap { (p % 2) * 2 + p / 2 } else { p }
 }
 
-// A block of mode 1. Requires words whose fields are in range, and the mask and the anchor of their partition.
-fn mode1(w: Words, mask: u16, anchor: u32) -> BitStream
+// A block of mode 1. Requires words whose fields are in range.
+fn mode1(w: Words) -> BitStream
     requires plain { ⌜ Plain mode1 (wordFields (mode1 .indexBits) w) ⌝ }
     requires list { ⌜ w .indexes < 2 ^ (16 * mode1 .indexBits) ⌝ }
-    requires table { ⌜ mask ≡ maskOf (w .partition) ⌝ }
-    requires place { ⌜ anchor ≡ anchorOf (w .partition) ⌝ }
     ensures { λ r. ⌜ bytes 16 (halves (r .low) (r .high)) ≡ packed mode1 (compressed mode1 (wordFields (mode1 .indexBits) w)) ⌝ }
 {
     let stored = w.ends;
-    let c = compress_p2(Mode1::INDEX_BITS, w.indexes, mask, anchor);
+    let c = compress_p2(Mode1::INDEX_BITS, w.indexes, w.partition as usize);
     let ends = swapped(stored, c.swap0, c.swap1);
     write_fields(
         1,
@@ -90,15 +78,13 @@ fn mode1(w: Words, mask: u16, anchor: u32) -> BitStream
 }
 
 // A block of mode 3, whose p-bits go with their endpoints. Requires the same.
-fn mode3(w: Words, mask: u16, anchor: u32) -> BitStream
+fn mode3(w: Words) -> BitStream
     requires plain { ⌜ Plain mode3 (wordFields (mode3 .indexBits) w) ⌝ }
     requires list { ⌜ w .indexes < 2 ^ (16 * mode3 .indexBits) ⌝ }
-    requires table { ⌜ mask ≡ maskOf (w .partition) ⌝ }
-    requires place { ⌜ anchor ≡ anchorOf (w .partition) ⌝ }
     ensures { λ r. ⌜ bytes 16 (halves (r .low) (r .high)) ≡ packed mode3 (compressed mode3 (wordFields (mode3 .indexBits) w)) ⌝ }
 {
     let stored = w.ends;
-    let c = compress_p2(Mode3::INDEX_BITS, w.indexes, mask, anchor);
+    let c = compress_p2(Mode3::INDEX_BITS, w.indexes, w.partition as usize);
     let ends = swapped(stored, c.swap0, c.swap1);
     let p = turned_bits(c.swap0, w.p % 4) + turned_bits(c.swap1, w.p / 4 % 4) * 4;
     write_fields(
@@ -114,28 +100,42 @@ fn mode3(w: Words, mask: u16, anchor: u32) -> BitStream
 }
 
 // A block of mode 1 or 3. Requires the same.
-fn block_bits(mode: u8, w: Words, mask: u16, anchor: u32) -> BitStream
+fn block_bits(mode: u8, w: Words) -> BitStream
     requires plain { ⌜ Plain (modeNumbered mode) (wordFields (modeNumbered mode .indexBits) w) ⌝ }
     requires list { ⌜ w .indexes < 2 ^ (16 * modeNumbered mode .indexBits) ⌝ }
-    requires table { ⌜ mask ≡ maskOf (w .partition) ⌝ }
-    requires place { ⌜ anchor ≡ anchorOf (w .partition) ⌝ }
     ensures { λ r. ⌜ bytes 16 (halves (r .low) (r .high)) ≡ packed (modeNumbered mode) (compressed (modeNumbered mode) (wordFields (modeNumbered mode .indexBits) w)) ⌝ }
 {
     match mode {
-        1 => mode1(w, mask, anchor),
-        _ => mode3(w, mask, anchor),
+        1 => mode1(w),
+        _ => mode3(w),
     }
 }
 
-// The block of words into a lent part: the writer of every call that makes a block. Requires fields in range and 16 bytes.
-pub fn write_words(mode: u8, w: Words, block: &mut [u8])
-    requires plain { ⌜ Plain (modeNumbered mode) (wordFields (modeNumbered mode .indexBits) w) ⌝ }
-    requires list { ⌜ w .indexes < 2 ^ (16 * modeNumbered mode .indexBits) ⌝ }
+// The block of words into a lent part: the writer of every call that makes a block. Each word is a parameter, which is quicker than
+// a `Words`. Requires fields in range and 16 bytes.
+pub fn write_words(
+    mode: u8,
+    partition: u8,
+    e0: u32,
+    e1: u32,
+    e2: u32,
+    e3: u32,
+    p: u8,
+    indexes: u64,
+    block: &mut [u8],
+)
+    requires plain { ⌜ Plain (modeNumbered mode) (wordFields (modeNumbered mode .indexBits) (record { partition = partition; ends = e0 ∷ (e1 ∷ (e2 ∷ (e3 ∷ []))); p = p; indexes = indexes })) ⌝ }
+    requires list { ⌜ indexes < 2 ^ (16 * modeNumbered mode .indexBits) ⌝ }
     requires sixteen { ⌜ length (now block) ≡ 16 ⌝ }
-    ensures { λ _. ⌜ now (block .exit) ≡ packed (modeNumbered mode) (compressed (modeNumbered mode) (wordFields (modeNumbered mode .indexBits) w)) ⌝ }
+    ensures { λ _. ⌜ now (block .exit) ≡ packed (modeNumbered mode) (compressed (modeNumbered mode) (wordFields (modeNumbered mode .indexBits) (record { partition = partition; ends = e0 ∷ (e1 ∷ (e2 ∷ (e3 ∷ []))); p = p; indexes = indexes }))) ⌝ }
 {
-    let partition = w.partition as usize;
-    let stream = block_bits(mode, w, mask(partition), anchor(partition) as u32);
+    let w = Words {
+        partition,
+        ends: [e0, e1, e2, e3],
+        p,
+        indexes,
+    };
+    let stream = block_bits(mode, w);
     write_bytes(stream.low, stream.high, block);
 }
 
@@ -151,6 +151,13 @@ fn listed(mode: u8, indices: &[u8; 16]) -> u64
     }
 }
 
+// Four endpoints, each as one number.
+pub fn words(e: [Rgb; 4]) -> [u32; 4]
+    ensures { λ r. ⌜ r ≡ map pixelWord e ⌝ }
+{
+    [word(e[0]), word(e[1]), word(e[2]), word(e[3])]
+}
+
 // The block of fields into a lent part. Requires fields in range and 16 bytes.
 pub fn write_block(mode: u8, f: Fields, block: &mut [u8])
     requires plain { ⌜ Plain (modeNumbered mode) f ⌝ }
@@ -159,12 +166,16 @@ pub fn write_block(mode: u8, f: Fields, block: &mut [u8])
 {
     let e = f.ends;
     let indices = f.indices;
-    let ends = [word(e[0]), word(e[1]), word(e[2]), word(e[3])];
-    let w = Words {
-        partition: f.partition,
-        ends,
-        p: f.p,
-        indexes: listed(mode, &indices),
-    };
-    write_words(mode, w, block);
+    let ends = words(e);
+    write_words(
+        mode,
+        f.partition,
+        ends[0],
+        ends[1],
+        ends[2],
+        ends[3],
+        f.p,
+        listed(mode, &indices),
+        block,
+    );
 }

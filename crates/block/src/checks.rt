@@ -52,7 +52,7 @@ fn stored_refusal(partition: u8, ends: [Rgb; 4], p: PBits, channel: u8, bits: u8
 }
 
 // 3 to 6, and then what the later checks give.
-pub(crate) fn candidate_refusal(c: Candidate, rest: u8) -> u8
+pub fn candidate_refusal(c: Candidate, rest: u8) -> u8
     ensures { λ r. ⌜ r ≡ checkCandidate c rest ⌝ }
 {
     let mode = c.mode;

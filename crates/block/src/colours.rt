@@ -5,8 +5,9 @@ ghost use Rattle.bptc_block.specs.Fields.{Plain};
 ghost use Rattle.bptc_block.specs.Chapter.{colours};
 use bptc::Rgb;
 use bptc_block::Fields;
+use palette::colour::pixel;
 use palette::palettes::palettes;
-use palette::table::mask;
+use partitions::mask;
 
 // The sixteen colours of fields. Requires that they are in range.
 pub(crate) fn colours(mode: u8, f: Fields) -> [Rgb; 16]
@@ -22,7 +23,8 @@ pub(crate) fn colours(mode: u8, f: Fields) -> [Rgb; 16]
     let mut i: usize = 0;
     while i < 16 {
         let row = rows[((subsets >> i) % 2) as usize];
-        out[i] = row[indices[i] as usize];
+        let c = row[indices[i] as usize];
+        out[i] = pixel(c.0);
         i += 1;
     }
     out

@@ -12,6 +12,7 @@ use crate::checks::read_refusal;
 use crate::colours::colours;
 use crate::pixels::distance;
 use crate::pixels::write_pixels;
+use bits::writing::words;
 use bits::writing::write_block;
 pub use bptc::Rgb;
 pub use bptc_block::Candidate;
@@ -20,10 +21,10 @@ pub use bptc_block::Finished;
 pub use bptc_block::Measured;
 pub use bptc_block::PBits;
 pub use bptc_block::Reading;
-use finishing::fields_for;
+use finishing::words::finish_words;
 use reading::fields;
 
-mod checks;
+pub mod checks;
 mod colours;
 pub mod pixels;
 
@@ -75,13 +76,17 @@ pub fn finish(pixels: &[u8], candidate: Candidate, block: &mut [u8]) -> Finished
             error: 0,
         };
     }
-    let chosen = fields_for(pixels, candidate);
-    let f = chosen.fields;
-    write_block(candidate.mode, f, block);
-    Finished {
-        refusal: 0,
-        error: chosen.error,
-    }
+    let ends = candidate.ends;
+    let p = candidate.p;
+    let error = finish_words(
+        pixels,
+        candidate.mode,
+        candidate.partition,
+        words(ends),
+        p,
+        block,
+    );
+    Finished { refusal: 0, error }
 }
 
 // A reading that is declined: the number, and all else zero.

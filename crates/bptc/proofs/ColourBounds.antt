@@ -7,6 +7,7 @@ use mathlib.Core.List.{List, [], _∷_}
 use lib.ListN.{getD, length}
 use Rattle.lists.specs.Bytes.{Bytes}
 use Rattle.bptc.specs.declared.Rgb.{Rgb}
+use Rattle.bptc.specs.Pixels.{pixelWord, pixelOf}
 use Rattle.bptc.specs.Colour.{black, Below, coloursOf, pixelIn, bytesOf, sqDiff, distSq}
 
 -- colours with the same channels
@@ -121,3 +122,8 @@ sq-self a = let e : a - a ≡ 0 = omega arith in rw e
 pub dist-self : (c : Rgb) → distSq c c ≡ 0
 unfolding distSq
 dist-self c = rw (sq-self (c .r), sq-self (c .g), sq-self (c .b))
+
+-- a colour's number stands for the colour
+pub word-pixel : (c : Rgb) → Below 256 c → pixelOf (pixelWord c) ≡ c
+unfolding pixelOf pixelWord
+word-pixel c h = rgb-eq (omega (arith, h)) (omega (arith, h)) (omega (arith, h))

@@ -7,7 +7,3 @@ pub mod Largest
 pub mod Shading
 pub mod NearestIndex
 pub mod SamePalette
-pub mod Marked
-pub mod Keys
-pub mod LeastKeys
-pub mod ClosestSubset

@@ -2,10 +2,10 @@
 use Prim.Native.Nat.{ℕ, suc, _≤_}
 use native.Mathlib.Nat.{zero-add}
 use native.Mathlib.Omega.{arith}
-use mathlib.Core.Path.{_≡_, sym, ap}
+use mathlib.Core.Path.{sym}
 use mathlib.Core.List.{List, Memᴰ·cast}
 use Rattle.lists.specs.Rows.{upFrom}
-use Rattle.lists.proofs.Least.{least-all, least-keeps, least-same}
+use Rattle.lists.proofs.Least.{least-all, least-keeps}
 use Rattle.lists.proofs.Rows.{upFrom-has, upFrom-below}
 use Rattle.bptc.specs.declared.Rgb.{Rgb}
 use Rattle.bptc.specs.Mode.{Mode, largest}
@@ -26,12 +26,6 @@ module _ (distance : Rgb → Rgb → ℕ) (colour : ℕ → Rgb) (last : ℕ) (c
   unfolding nearestBy
   small-by =
       least-keeps (λ (i : ℕ). distance c (colour i)) (λ (i : ℕ). i ≤ last) (upFrom 1 last) 0 (λ i h. omega (arith, upFrom-below (suc last) 0 i h))
-
--- palettes that agree up to the last index
-pub same-by : (distance : Rgb → Rgb → ℕ) (f g : ℕ → Rgb) (last : ℕ) (c : Rgb) → ((i : ℕ) → i ≤ last → f i ≡ g i) → nearestBy distance f last c ≡ nearestBy distance g last c
-unfolding nearestBy
-same-by distance f g last c h =
-    least-same (λ (i : ℕ). distance c (f i)) (λ (i : ℕ). distance c (g i)) (upFrom 1 last) 0 (λ i m. ap (distance c) (h i (omega (arith, upFrom-below (suc last) 0 i m))))
 
 -- in the palette of a subset
 module _ (m : Mode) (ends : List Rgb) (p s : ℕ) (c : Rgb) where

@@ -2,18 +2,21 @@
 use Prim.Native.Nat.{ℕ, suc, _+_, _-_, _*_, _/_, _^_, _≤_, _<_}
 use native.Mathlib.Nat.{add-comm, mul-assoc, mul-le-mul-left}
 use native.Mathlib.Omega.{arith}
-use mathlib.Core.Path.{_≡_, ap, ap₂, _∙_}
+use mathlib.Core.Path.{_≡_, refl, ap, ap₂, _∙_}
 use mathlib.Core.List.{List, [], _∷_, map}
 use lib.Arith.{sub-sub-self}
-use lib.ListN.{getD, replicate}
+use lib.ListN.{getD, length, replicate}
 use Rattle.lists.specs.Rows.{upFrom, written}
-use Rattle.lists.proofs.Rows.{getD-each, written-at, written-same}
+use Rattle.lists.proofs.Rows.{getD-map, getD-each, written-at, written-same}
+use Rattle.lists.proofs.Writing.{length-written}
 use Rattle.bptc.specs.declared.Rgb.{Rgb}
+use Rattle.bptc.specs.declared.Colour.{Colour}
 use Rattle.bptc.specs.Mode.{Mode, weight, largest}
 use Rattle.bptc.specs.Colour.{black, both, Below}
 use Rattle.bptc.specs.Shown.{pBit, pShown, endShownBy, endShown, Stored}
-use Rattle.bptc.specs.Palette.{between, blend, shade, paletteAt, row, rowWeights, blendedRow, blendedRows, palettes}
-use Rattle.bptc.proofs.ColourBounds.{rgb-eq}
+use Rattle.bptc.specs.Palette.{between, blend, shade, paletteAt, row, rowWeights, blendedRow, blendedRows, palettes, colour, coloured, wordAt}
+use Rattle.bptc.specs.Pixels.{pixelWord, pixelOf}
+use Rattle.bptc.proofs.ColourBounds.{rgb-eq, word-pixel}
 use Rattle.bptc.proofs.Modes.{Shades}
 use Rattle.bptc.proofs.ShownBytes.{p-shown-byte}
 
@@ -97,6 +100,30 @@ module _ (m : Mode) (shades : Shades m) where
   unfolding paletteAt
   palette-byte ends p s i two h stored =
       shade-byte _ _ i h (end-byte ends p (2 * s) (stored (2 * s) (omega arith))) (end-byte ends p (2 * s + 1) (stored (2 * s + 1) (omega arith)))
+
+-- a colour of both palettes as rows of numbers
+module _ (m : Mode) (few : largest m < 8) (ends : List Rgb) (p s j : ℕ) (two : s < 2) (index : j ≤ largest m) where
+  row-length : length (getD (palettes m ends p) s []) ≡ 8
+  unfolding palettes
+  row-length =
+      rw (getD-each [] (λ (s : ℕ). written (paletteAt m ends p s) (suc (largest m)) (replicate 8 black)) 2 s two)
+      (length-written (paletteAt m ends p s) (suc (largest m)) (replicate 8 black) few)
+
+  two-rows : length (palettes m ends p) ≡ 2
+  unfolding palettes
+  two-rows = refl
+
+  -- its number
+  pub word-at : wordAt (coloured (palettes m ends p)) s j ≡ pixelWord (paletteAt m ends p s j)
+  unfolding coloured
+  word-at =
+      ap (λ (row : List Colour). getD row j (record { 0 = 0 }) .0) (getD-map [] [] (map colour) (palettes m ends p) s (rw two-rows two))
+      ∙ ap (λ (c : Colour). c .0) (getD-map (record { 0 = 0 }) black colour (getD (palettes m ends p) s []) j (omega (arith, row-length)))
+      ∙ ap pixelWord (palettes-at m ends p s j two index)
+
+  -- which stands for it
+  pub word-shown : Shades m → Stored m ends → pixelOf (wordAt (coloured (palettes m ends p)) s j) ≡ paletteAt m ends p s j
+  word-shown shades stored = ap pixelOf word-at ∙ word-pixel (paletteAt m ends p s j) (palette-byte m shades ends p s j two index stored)
 
 -- the sum of interpolate_rgb in u16, and its high byte in u8
 pub interpolated : (w a b : ℕ) → w ≤ 256 → a < 256 → b < 256 → ((256 - w) * a + w * b + 128 < 2 ^ 16) × (((256 - w) * a + w * b + 128) / 2 ^ 8 < 2 ^ 8)

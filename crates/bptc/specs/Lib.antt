@@ -6,4 +6,3 @@ pub mod Palette
 pub mod Nearest
 pub mod Pixels
 pub mod Closest
-pub mod Keys

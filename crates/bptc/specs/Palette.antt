@@ -1,12 +1,14 @@
 -- The colours of a subset's palette, between the two that its endpoints show.
 use Prim.Native.Nat.{ℕ, suc, _+_, _-_, _*_, _/_}
-use mathlib.Core.List.{List, map}
+use mathlib.Core.List.{List, [], map}
 use lib.ListN.{getD, replicate}
 use Rattle.lists.specs.Rows.{upFrom, written}
 use Rattle.bptc.specs.declared.Rgb.{Rgb}
+use Rattle.bptc.specs.declared.Colour.{Colour}
 use Rattle.bptc.specs.Mode.{Mode, weight, largest}
 use Rattle.bptc.specs.Colour.{black, both}
 use Rattle.bptc.specs.Shown.{endShown}
+use Rattle.bptc.specs.Pixels.{pixelWord}
 
 -- the chapter's interpolation of a channel, at a weight in parts of 64
 unfoldable pub between : ℕ → ℕ → ℕ → ℕ
@@ -43,3 +45,15 @@ blendedRows weights n e = map (λ (s : ℕ). blendedRow weights n (getD e (2 * s
 -- both palettes of a block, a row of eight for each subset, black past the mode's largest index
 unfoldable pub palettes : Mode → List Rgb → ℕ → List (List Rgb)
 palettes m ends p = map (λ (s : ℕ). written (paletteAt m ends p s) (suc (largest m)) (replicate 8 black)) (upFrom 0 2)
+
+-- a colour as one number, as the rows of the code have it
+abbrev pub colour : Rgb → Colour
+colour c = record { 0 = pixelWord c }
+
+-- both rows so
+unfoldable pub coloured : List (List Rgb) → List (List Colour)
+coloured rows = map (map colour) rows
+
+-- the number of colour j of row s
+abbrev pub wordAt : List (List Colour) → ℕ → ℕ → ℕ
+wordAt rows s j = getD (getD rows s []) j (record { 0 = 0 }) .0

@@ -1,8 +1,12 @@
 -- The chapter's two-subset partitions: the subset of each pixel, and the anchor of subset 1.
-use Prim.Native.Nat.{ℕ}
-use mathlib.Core.List.{List, [], _∷_}
-use lib.ListN.{getD}
+use Prim.Native.Nat.{ℕ, _+_, _-_, _*_, _^_}
+use mathlib.Core.List.{List, [], _∷_, map}
+use lib.Dec.{eqb}
+use lib.ListN.{getD, replicate}
+use Rattle.lists.specs.Tests.{pick}
+use Rattle.lists.specs.Rows.{upFrom}
 use Rattle.lists.specs.Digits.{bit, onesBelow}
+use Rattle.lists.specs.Bits.{join}
 
 -- bit i of an entry is the subset of pixel i
 unfoldable pub masks : List ℕ
@@ -27,3 +31,15 @@ anchorOf p = getD anchors p 0
 -- how many pixels lie in subset 1
 unfoldable pub sizeOf : ℕ → ℕ
 sizeOf p = onesBelow 16 (maskOf p)
+
+-- an index of so many bits: all ones at a pixel of subset 1, and 0 elsewhere
+abbrev pub onesAt : ℕ → ℕ → ℕ → ℕ
+onesAt bits p i = pick (eqb (subsetOf p i) 1) (2 ^ bits - 1) 0
+
+-- sixteen of them as one number
+unfoldable pub onesOf : ℕ → ℕ → ℕ
+onesOf bits p = join (replicate 16 bits) (map (onesAt bits p) (upFrom 0 16))
+
+-- these, and the anchor of subset 1 above them
+unfoldable pub entryOf : ℕ → ℕ → ℕ
+entryOf bits p = anchorOf p * 2 ^ (16 * bits) + onesOf bits p

@@ -8,8 +8,5 @@ pub struct Rgb {
     pub b: u8,
 }
 
-// What the search over one subset finds: an index for each of its pixels, 0 for each other, and the summed distance.
-pub struct Closest {
-    pub indices: [u8; 16],
-    pub error: u32,
-}
+// A colour that is shown, as one number: red lowest, then green, then blue.
+pub struct Colour(pub u32);

@@ -69,6 +69,10 @@ module _ (px : List ℕ) (c : Candidate) (block : List ℕ) where
     pub finish-sixteen : length block ≡ 16
     finish-sixteen = eqb-true _ _ (passed (eqb (length block) 16) 1 _ (after-pixels .1) .0)
 
+    -- the checks of the candidate decline nothing
+    pub finish-accepted : checkCandidate c 0 ≡ 0
+    finish-accepted = passed (eqb (length block) 16) 1 _ (after-pixels .1) .1
+
     -- what such a candidate is
     pub finish-good : Good c
-    finish-good = good c 0 (passed (eqb (length block) 16) 1 _ (after-pixels .1) .1) .0
+    finish-good = good c 0 finish-accepted .0

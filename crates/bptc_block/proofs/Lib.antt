@@ -19,3 +19,4 @@ pub mod Merged
 pub mod Turned
 pub mod FinishCall
 pub mod Promise
+pub mod WordEnds

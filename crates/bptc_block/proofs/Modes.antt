@@ -3,9 +3,8 @@ use Prim.Native.Nat.{ℕ}
 use mathlib.Core.Path.{_≡_}
 use mathlib.Core.Logic.{inl, inr}
 use lib.Dec.{eqb}
-use borrow.Author.Tests.{ne-eqb}
 use Rattle.lists.proofs.Tests.{pick-elim}
-use Rattle.bptc.specs.Mode.{Mode, mode1, mode3, Known, modeNumbered}
+use Rattle.bptc.specs.Mode.{Mode, Known, modeNumbered}
 use Rattle.bptc.proofs.Modes.{Shades, shades1, shades3}
 use Rattle.bptc_block.proofs.Packed.{Filling, filling1, filling3}
 use Rattle.bptc_block.proofs.Turns.{Turns, turns1, turns3}
@@ -29,11 +28,3 @@ lawful n =
 pub own-number : (n : ℕ) → Known n → modeNumbered n .number ≡ n
 own-number n (inl e) = rw e
 own-number n (inr e) = rw e
-
--- a mode's number that is 1
-pub one-known : (mode : ℕ) → mode ≡ 1 → modeNumbered mode ≡ mode1
-one-known mode e = rw e
-
--- and one that is not
-pub other-known : (mode : ℕ) → (mode ≡ 1 → ⊥) → modeNumbered mode ≡ mode3
-other-known mode ne = rw (ne-eqb mode 1 ne)

@@ -1,21 +1,17 @@
 -- The p-bits of the trial: those of one subset stand apart from the other's, and the trial leaves none out.
 use Prim.Native.Nat.{ℕ, _+_, _*_, _^_, _<_}
 use native.Mathlib.Omega.{arith}
-use mathlib.Core.Path.{_≡_, refl}
+use mathlib.Core.Path.{_≡_}
 use mathlib.Core.Bool.{Bool}
-use mathlib.Core.List.{List, [], _∷_, List·Memᴰ}
+use mathlib.Core.List.{List, _∷_, List·Memᴰ}
 use lib.Dec.{T, eqb, ltb, eqb→eq, ltb→lt}
-use borrow.Author.Tests.{ne-eqb}
 use Rattle.lists.specs.Tests.{and, all}
 use Rattle.lists.specs.Rows.{upFrom}
-use Rattle.lists.specs.Least.{firstLeast}
 use Rattle.lists.proofs.Tests.{and-left, and-right}
 use Rattle.lists.proofs.Tables.{tested, all-of, any, any-of}
-use Rattle.bptc.specs.declared.Rgb.{Rgb}
-use Rattle.bptc.specs.Mode.{Mode, mode1, mode3, modeNumbered}
+use Rattle.bptc.specs.Mode.{Mode, mode1, mode3}
 use Rattle.bptc.specs.Shown.{pBit}
-use Rattle.bptc.specs.Closest.{closestIn}
-use Rattle.bptc_block.specs.Finish.{otherBits, bitsFor, joinedBits}
+use Rattle.bptc_block.specs.Finish.{otherBits, joinedBits}
 
 -- the p-bits that are tried, in their order
 abbrev pub choices : Mode → List ℕ
@@ -86,18 +82,3 @@ trials1 = trials-of mode1 (λ p q. (record { low = omega arith; high = omega ari
 pub trials3 : Trials mode3
 unfolding otherBits joinedBits
 trials3 = trials-of mode3 (λ p q. (record { low = omega arith; high = omega arith }, record { low = omega arith; high = omega arith })) (λ p q h l. omega arith) tt tt
-
--- by a mode's number, the p-bits that are tried after 0: in mode 1
-pub shared-bits : (mode : ℕ) → mode ≡ 1 → otherBits (modeNumbered mode) ≡ 0b11 ∷ []
-unfolding otherBits
-shared-bits mode e = rw e
-
--- and in mode 3
-pub unique-bits : (mode : ℕ) → (mode ≡ 1 → ⊥) → otherBits (modeNumbered mode) ≡ 0b1010 ∷ (0b0101 ∷ (0b1111 ∷ []))
-unfolding otherBits
-unique-bits mode ne = rw (ne-eqb mode 1 ne)
-
--- what a subset keeps is the first of least error by closest_rgb
-pub bits-tried : (m : Mode) (part : ℕ) (ends cs : List Rgb) (s : ℕ) → bitsFor m part ends cs s ≡ firstLeast (λ (p : ℕ). closestIn m part ends p s cs .error) 0 (otherBits m)
-unfolding bitsFor
-bits-tried m part ends cs s = refl

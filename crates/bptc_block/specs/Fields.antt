@@ -14,6 +14,7 @@ use Rattle.bptc.specs.Colour.{black, Below}
 use Rattle.bptc.specs.Pixels.{pixelOf}
 use Rattle.bptc_block.specs.declared.Fields.{Fields}
 use Rattle.bptc_block.specs.declared.Words.{Words}
+use Rattle.bptc_block.specs.declared.Candidate.{Candidate}
 use Rattle.bptc_block.specs.declared.PBits.{PBits}
 use Rattle.bptc_block.specs.declared.PBits.the-variants.{Free, Fixed}
 
@@ -29,6 +30,10 @@ indexWidth m part i = indexWidthBy (m .indexBits) (anchorOf part) i
 abbrev pub wordFields : ℕ → Words → Fields
 wordFields bits w =
     record { partition = w .partition; ends = map pixelOf (w .ends); p = w .p; indices = split (replicate 16 bits) (w .indexes) }
+
+-- the candidate that numbers stand for, an endpoint as one
+abbrev pub wordCandidate : ℕ → ℕ → List ℕ → PBits → Candidate
+wordCandidate mode partition ends p = record { mode = mode; partition = partition; ends = map pixelOf ends; p = p }
 
 -- a candidate's p-bits as two numbers: fixed where the second is 0, and else free
 abbrev pub pBitsOf : ℕ → ℕ → PBits

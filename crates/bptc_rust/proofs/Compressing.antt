@@ -1,5 +1,5 @@
 -- compress_p2 gives the number of the compressed fields' indexes, and swaps the subsets that `compressed` exchanges.
-use Prim.Native.Nat.{ℕ, _-_, _*_, _^_, _<_}
+use Prim.Native.Nat.{ℕ, zero, suc, _-_, _*_, _^_, _≤_, _<_}
 use native.Mathlib.Nat.{le-refl}
 use native.Mathlib.Omega.{arith}
 use mathlib.Core.Path.{_≡_, refl, sym, ap, _∙_}
@@ -16,8 +16,8 @@ use Rattle.lists.specs.Bits.{join}
 use Rattle.lists.proofs.Tests.{pick-elim, pick-map}
 use Rattle.lists.proofs.Rows.{getD-each, listed}
 use Rattle.lists.proofs.Bits.{fits-places, join-lt}
-use Rattle.bptc.specs.Mode.{Mode, largest}
-use Rattle.bptc.specs.Partition.{subsetOf, anchorOf}
+use Rattle.bptc.specs.Mode.{Mode, mode1, mode3, largest}
+use Rattle.bptc.specs.Partition.{maskOf, subsetOf, anchorOf, onesOf}
 use Rattle.bptc.proofs.PartitionRule.{Placed, placed}
 use Rattle.bptc.proofs.Largest.{largest-fits}
 use Rattle.bptc_block.specs.declared.Fields.{Fields}
@@ -27,25 +27,35 @@ use Rattle.bptc_block.proofs.Widths.{plain-of}
 use Rattle.bptc_block.proofs.Modes.{Lawful}
 use Rattle.bptc_block.proofs.Flipping.{indexAt}
 use Rattle.bptc_block.proofs.Exchanging.{anchored-plain, anchored-partition, compressed-partition, low-first, low-anchor, compressed-formed}
-use Rattle.bptc_rust.specs.Subset2Map.{Subset2Map}
+use Rattle.bptc_rust.specs.Subset2Map.{PARTITION-SET-2}
 use Rattle.bptc_rust.specs.IndexList.{INDEXES-MASK}
 use Rattle.bptc_rust.specs.CompressedIndexList.{ensure-msb-zero, compress-single-index, bits-repeat2-u16, bits-repeat3-u16, compress-p2}
-use Rattle.bptc_rust.proofs.Table.{mapOf}
+use Rattle.bptc_rust.proofs.Table.{mapOf, map-same}
 use Rattle.bptc_rust.proofs.Digits.{digits, Small}
 use Rattle.bptc_rust.proofs.TopBit.{xor-digits, xor-ones, msb}
 use Rattle.bptc_rust.proofs.AnchorBits.{removed}
-use Rattle.bptc_rust.proofs.Masks.{maskAt, subsetMask, repeated, Masks}
+use Rattle.bptc_rust.proofs.Masks.{maskAt, subsetMask, repeated, Masks, masks1, masks3, ones-repeated}
+
+-- the bits of subset 1's indexes are the mask of compress_p2, where an index has two bits or three
+ones-mask : (I part : ℕ) → 2 ≤ I → I ≤ 3 → part < 64 → onesOf I part ≡ pick (eqb I 2) (bits-repeat2-u16 (maskOf part)) (bits-repeat3-u16 (maskOf part))
+ones-mask zero part low high h = absurd (omega arith)
+ones-mask (suc zero) part low high h = absurd (omega arith)
+ones-mask (suc (suc zero)) part low high h = ones-repeated mode3 masks3 part h
+ones-mask (suc (suc (suc zero))) part low high h = ones-repeated mode1 masks1 part h
+ones-mask (suc (suc (suc (suc I)))) part low high h = absurd (omega arith)
 
 -- compress_p2 step by step
-module _ (I self : ℕ) (subset : Subset2Map) {mask e₀ e₁ x y : ℕ} {t u : Bool} where
-  -- the steps of a program that follows it
-  pub p2-steps : mask ≡ pick (eqb I 2) (bits-repeat2-u16 (subset .subset-indexes)) (bits-repeat3-u16 (subset .subset-indexes)) →
+module _ (I self part : ℕ) (low : 2 ≤ I) (high : I ≤ 3) (inside : part < 64) {mask anchor e₀ e₁ x y : ℕ} {t u : Bool} where
+  -- the steps of a program that follows it, with a table's mask and anchor
+  pub p2-steps : mask ≡ onesOf I part → anchor ≡ anchorOf part →
       e₀ ≡ ensure-msb-zero I self 0 (bitXor mask (INDEXES-MASK I)) .0 → t ≡ ensure-msb-zero I self 0 (bitXor mask (INDEXES-MASK I)) .1 →
-      e₁ ≡ ensure-msb-zero I e₀ (subset .fixup-index-2) mask .0 → u ≡ ensure-msb-zero I e₀ (subset .fixup-index-2) mask .1 →
-      x ≡ compress-single-index I e₁ (subset .fixup-index-2) → y ≡ compress-single-index I x 0 →
-      (y ≡ compress-p2 I self subset .0 .compressed-indexes) × ((t ≡ compress-p2 I self subset .1) × (u ≡ compress-p2 I self subset .2))
-  unfolding compress-p2
-  p2-steps m a b c d f g = (rw (g, f, c, a, m) refl, (rw (b, m) refl, rw (d, a, m) refl))
+      e₁ ≡ ensure-msb-zero I e₀ anchor mask .0 → u ≡ ensure-msb-zero I e₀ anchor mask .1 →
+      x ≡ compress-single-index I e₁ anchor → y ≡ compress-single-index I x 0 →
+      (y ≡ compress-p2 I self (PARTITION-SET-2 part) .0 .compressed-indexes) × ((t ≡ compress-p2 I self (PARTITION-SET-2 part) .1) × (u ≡ compress-p2 I self (PARTITION-SET-2 part) .2))
+  unfolding compress-p2 mapOf
+  p2-steps ones place a b c d f g =
+      let m = ones ∙ ones-mask I part low high inside in
+      rw (map-same part inside) (rw (g, f, c, a, m, place) refl, (rw (b, m) refl, rw (d, a, m, place) refl))
 
 flip-digit : (I v : ℕ) (t : Bool) → v < 2 ^ I → bitXor v (pick t (2 ^ I - 1) 0) ≡ pick t (2 ^ I - 1 - v) v
 flip-digit I v true h = xor-ones I v h

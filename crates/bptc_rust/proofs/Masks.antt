@@ -1,7 +1,7 @@
 -- What compress_p2 asks of a mode, by tests that antt computes over the partitions: the masks of the two subsets, and the bits of the indexes.
 use Prim.Native.Nat.{ℕ, _-_, _*_, _≤_, _<_}
 use native.Mathlib.Omega.{arith}
-use mathlib.Core.Path.{_≡_}
+use mathlib.Core.Path.{_≡_, sym}
 use mathlib.Core.Bool.{Bool}
 use mathlib.Core.List.{map}
 use lib.Bits.{bitXor}
@@ -11,7 +11,7 @@ use Rattle.lists.specs.Rows.{upFrom, sum}
 use Rattle.lists.specs.Bits.{join}
 use Rattle.lists.proofs.Tables.{tested}
 use Rattle.bptc.specs.Mode.{Mode, mode1, mode3, largest}
-use Rattle.bptc.specs.Partition.{masks, anchors, maskOf, subsetOf, anchorOf}
+use Rattle.bptc.specs.Partition.{masks, anchors, maskOf, subsetOf, anchorOf, onesOf}
 use Rattle.bptc_block.specs.Fields.{indexWidth}
 use Rattle.bptc_rust.specs.IndexList.{INDEXES-MASK}
 use Rattle.bptc_rust.specs.CompressedIndexList.{bits-repeat2-u16, bits-repeat3-u16}
@@ -69,3 +69,8 @@ masks1 = masks-of mode1 (omega arith) (omega arith) tt tt tt
 pub masks3 : Masks mode3
 unfolding largest bits-repeat2-u16 subsetOf maskOf masks anchorOf anchors indexWidth digits join
 masks3 = masks-of mode3 (omega arith) (omega arith) tt tt tt
+
+-- the bits of subset 1's indexes are the mask that the Rust makes
+pub ones-repeated : (m : Mode) → Masks m → (part : ℕ) → part < 64 → onesOf (m .indexBits) part ≡ repeated m part
+unfolding onesOf digits largest
+ones-repeated m known part h = sym (known .second part h)

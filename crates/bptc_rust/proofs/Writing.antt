@@ -14,7 +14,6 @@ use Rattle.lists.proofs.Rows.{listed}
 use Rattle.lists.proofs.Bits.{join-single}
 use Rattle.bptc.specs.declared.Rgb.{Rgb}
 use Rattle.bptc.specs.Mode.{Mode, mode1, mode3}
-use Rattle.bptc.specs.Partition.{maskOf, anchorOf}
 use Rattle.bptc.specs.Colour.{black}
 use Rattle.bptc.specs.Shown.{Stored}
 use Rattle.bptc_block.specs.declared.Fields.{Fields}
@@ -26,7 +25,8 @@ use Rattle.bptc_block.proofs.Modes.{Lawful}
 use Rattle.bptc_block.proofs.Exchanging.{compressed-partition, compressed-formed}
 use Rattle.bptc_rust.specs.IndexList.{index-list}
 use Rattle.bptc_rust.specs.CompressedIndexList.{compress-p2}
-use Rattle.bptc_rust.proofs.Table.{mapOf}
+use Rattle.bptc_rust.specs.Subset2Map.{PARTITION-SET-2}
+use Rattle.bptc_rust.proofs.Table.{map-same}
 use Rattle.bptc_rust.proofs.Digits.{list-digits}
 use Rattle.bptc_rust.proofs.Masks.{Masks}
 use Rattle.bptc_rust.proofs.Compressing.{plain-small, swap₀, swap₁, indexNumber, compress-indexes, number-small}
@@ -111,19 +111,17 @@ module _ (m : Mode) (law : Lawful m) (known : Masks m) (f : Fields) (plain : Pla
             ∙ ap (λ (q : ℕ). join (frontWidths (m .number) (m .channelBits) (ws q)) (frontValues (m .number) q (after .ends) (after .p ∷ after .indices))) (sym (compressed-partition m law f plain)));
       }
 
-  -- what compress_p2 makes of the indexes and the partition's mask and anchor
-  module _ (w mask anchor : ℕ) (list : w ≡ index-list (m .indexBits) (f .indices)) (table : mask ≡ maskOf (f .partition)) (place : anchor ≡ anchorOf (f .partition)) where
-    steps : compress-p2 (m .indexBits) w (record { subset-indexes = mask; fixup-index-2 = anchor })
+  -- what compress_p2 makes of the indexes
+  module _ (w : ℕ) (list : w ≡ index-list (m .indexBits) (f .indices)) where
+    steps : compress-p2 (m .indexBits) w (PARTITION-SET-2 (f .partition))
         ≡ (record { compressed-indexes = number; bits = 16 * m .indexBits - 2 }, swap₀ m law known f plain, swap₁ m law known f plain)
-    unfolding mapOf
     steps =
-        rw (list, table, place, list-digits (m .indexBits) (known .narrow) (f .indices) (plain .sixteen) (plain-small m f plain))
+        rw (list, map-same (f .partition) (plain .partition), list-digits (m .indexBits) (known .narrow) (f .indices) (plain .sixteen) (plain-small m f plain))
         (compress-indexes m law known f plain)
 
     -- with the endpoints swapped as it says, and the p-bits p
-    pub ready : (t u : Bool) (n p : ℕ) → n ≡ compress-p2 (m .indexBits) w (record { subset-indexes = mask; fixup-index-2 = anchor }) .0 .compressed-indexes →
-        t ≡ compress-p2 (m .indexBits) w (record { subset-indexes = mask; fixup-index-2 = anchor }) .1 →
-        u ≡ compress-p2 (m .indexBits) w (record { subset-indexes = mask; fixup-index-2 = anchor }) .2 →
+    pub ready : (t u : Bool) (n p : ℕ) → n ≡ compress-p2 (m .indexBits) w (PARTITION-SET-2 (f .partition)) .0 .compressed-indexes →
+        t ≡ compress-p2 (m .indexBits) w (PARTITION-SET-2 (f .partition)) .1 → u ≡ compress-p2 (m .indexBits) w (PARTITION-SET-2 (f .partition)) .2 →
         p ≡ pick u (flipped m 1 (pick t (flipped m 0 f) f)) (pick t (flipped m 0 f) f) .p → Ready m f (swappedEnds (f .ends) t u) p n
     unfolding compressed anchored
     ready t u n p e₀ e₁ e₂ bits =

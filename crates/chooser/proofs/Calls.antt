@@ -1,6 +1,6 @@
 -- Laws of the calls `start`, `offer` and `take`: what they give, what they decline, and what is held.
 use Prim.Native.Nat.{ℕ}
-use mathlib.Core.Path.{_≡_, refl, sym, _∙_}
+use mathlib.Core.Path.{_≡_, refl, _∙_}
 use mathlib.Core.Bool.{false}
 use mathlib.Core.List.{List}
 use lib.Dec.{eqb}
@@ -10,18 +10,17 @@ use Rattle.lists.specs.Bytes.{Bytes}
 use Rattle.lists.proofs.Tests.{pick-elim}
 use Rattle.lists.proofs.Bytes.{zero-bytes}
 use Rattle.bptc_block.specs.declared.Candidate.{Candidate}
-use Rattle.bptc_block.specs.declared.Finished.{Finished}
-use Rattle.bptc_block.specs.FinishCall.{finishOf, finishInto}
+use Rattle.bptc_block.specs.Finish.{finish}
+use Rattle.bptc_block.specs.FinishCall.{finishOf}
 use Rattle.bptc_block.specs.Promise.{FinishPromise}
 use Rattle.bptc_block.proofs.Refusals.{number-said}
-use Rattle.bptc_block.proofs.FinishCall.{finish-declines}
+use Rattle.bptc_block.proofs.FinishCall.{finish-declines, finish-answer, finish-block}
 use Rattle.bptc_block.proofs.Promise.{finish-keeps}
 use Rattle.chooser.specs.declared.Chooser.{Chooser}
 use Rattle.chooser.specs.declared.Offered.{Offered}
 use Rattle.chooser.specs.declared.Taken.{Taken}
-use Rattle.chooser.specs.Rule.{better}
 use Rattle.chooser.specs.StartCall.{startRefusal, emptyOver, blackPixels, startedOver, startOf}
-use Rattle.chooser.specs.OfferCall.{offerRefusal, finishGives, kept, keeping, accepting, offerOf}
+use Rattle.chooser.specs.OfferCall.{offerRefusal, finishGives, kept, accepting, offerOf}
 use Rattle.chooser.specs.TakeCall.{takeRefusal, takeOf, takeInto}
 use Rattle.chooser.specs.Calls.{held}
 
@@ -69,26 +68,23 @@ module _ (ch : Chooser) (c : Candidate) where
   unfolding offerOf
   offer-declined ne = rw (ne-eqb (offerRefusal c) 0 ne)
 
-  -- by what the call `finish` answered over the chooser's pixels
-  module _ (f : Finished) (p : length (ch .pixels) ≡ 48) (e : f ≡ finishOf (ch .pixels) c (replicate 16 0)) where
-    finish-said : f .refusal ≡ offerRefusal c
-    finish-said = rw e (finish-declines (ch .pixels) c (replicate 16 0) p refl)
-
-    -- its block and error, or what was kept
-    pub offer-better : (block : List ℕ) → block ≡ finishInto (ch .pixels) c (replicate 16 0) → f .refusal ≡ 0 →
-        record { refusal = f .refusal; chooser = keeping ch (better (kept ch) (record { block = block; error = f .error })) } ≡ offerOf ch c
-    unfolding offerOf finishGives
-    offer-better block b ok = rw (sym finish-said ∙ ok, ok, b, e)
-
-    -- a refusal leaves the chooser as it was
-    pub offer-left : (f .refusal ≡ 0 → ⊥) → record { refusal = f .refusal; chooser = ch } ≡ offerOf ch c
-    offer-left ne = rw (offer-declined (λ z. ne (finish-said ∙ z)), finish-said)
+  -- an accepted one
+  pub offer-accepted : offerRefusal c ≡ 0 → offerOf ch c ≡ record { refusal = 0; chooser = accepting ch c }
+  unfolding offerOf
+  offer-accepted ok = rw ok
 
 -- what finishing promises of an accepted candidate
 pub gives-keeps : (px : List ℕ) (c : Candidate) → length px ≡ 48 → length (c .ends) ≡ 4 → offerRefusal c ≡ 0 →
     FinishPromise px c (finishGives px c .block) (finishGives px c .error)
 unfolding finishGives
 gives-keeps px c p four ok = finish-keeps px c (replicate 16 0) four (finish-declines px c (replicate 16 0) p refl ∙ ok)
+
+-- and what it gives
+pub gives-finished : (px : List ℕ) (c : Candidate) → length px ≡ 48 → offerRefusal c ≡ 0 → finishGives px c ≡ finish px c
+unfolding finishGives
+gives-finished px c p ok =
+    let none : finishOf px c (replicate 16 0) .refusal ≡ 0 = finish-declines px c (replicate 16 0) p refl ∙ ok in
+    rw (finish-block px c (replicate 16 0) none, finish-answer px c (replicate 16 0) none)
 
 module _ (ch : Chooser) (part : List ℕ) where
   -- a take alters no chooser, declined or not

@@ -1,14 +1,18 @@
 // Choosing among candidates: the best block so far over pixels, kept from offer to offer.
 ghost use mathlib.Core.Path.{_≡_};
 ghost use lib.ListN.{length};
+ghost use Rattle.bptc_block.specs.Fields.{wordCandidate};
+ghost use Rattle.bptc_block.specs.Refusal.{checkCandidate};
 ghost use Rattle.chooser.specs.Rule.{better};
 ghost use Rattle.chooser.specs.StartCall.{emptyOver, startOf};
-ghost use Rattle.chooser.specs.OfferCall.{kept, keeping, offerOf};
+ghost use Rattle.chooser.specs.OfferCall.{kept, keeping, accepting, offerOf};
 ghost use Rattle.chooser.specs.TakeCall.{takeOf, takeInto};
+use bits::writing::words;
 pub use block::Candidate;
 pub use block::PBits;
 pub use block::Rgb;
-use block::finish;
+use block::checks::candidate_refusal;
+use finishing::words::finish_words;
 
 // The pixels that candidates are finished over, and the best block so far with its error.
 pub struct Chooser {
@@ -94,18 +98,29 @@ impl Chooser {
         self
     }
 
+    // Finishes the chooser's pixels with numbers that the checks accept, and keeps the better block.
+    pub fn accept(self, mode: u8, partition: u8, ends: [u32; 4], p: PBits) -> Chooser
+        requires { ⌜ checkCandidate (wordCandidate mode partition ends p) 0 ≡ 0 ⌝ }
+        ensures { λ r. ⌜ r ≡ accepting self (wordCandidate mode partition ends p) ⌝ }
+    {
+        let pixels = self.pixels;
+        let mut block = [0u8; 16];
+        let error = finish_words(&pixels, mode, partition, ends, p, &mut block);
+        self.better(block, error)
+    }
+
     // Finishes the chooser's pixels with a candidate, and keeps the better block.
     pub fn offer(mut self, candidate: Candidate) -> Offered
         ensures { λ r. ⌜ r ≡ offerOf self candidate ⌝ }
     {
-        let pixels = self.pixels;
-        let mut block = [0u8; 16];
-        let finished = finish(&pixels, candidate, &mut block);
-        if finished.refusal == 0 {
-            self = self.better(block, finished.error);
+        let refusal = candidate_refusal(candidate, 0);
+        if refusal == 0 {
+            let ends = candidate.ends;
+            let p = candidate.p;
+            self = self.accept(candidate.mode, candidate.partition, words(ends), p);
         }
         Offered {
-            refusal: finished.refusal,
+            refusal,
             chooser: self,
         }
     }

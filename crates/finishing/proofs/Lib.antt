@@ -1,1 +1,3 @@
-pub mod Best
+pub mod Lacking
+pub mod Kept
+pub mod Finished

@@ -1,6 +1,7 @@
 pub mod Tests
 pub mod Tables
 pub mod Rows
+pub mod Writing
 pub mod Parts
 pub mod Sums
 pub mod Least

@@ -6,7 +6,7 @@ use native.Mathlib.Omega.{arith}
 use mathlib.Core.Path.{_≡_, refl, sym, ap, ap₂, _∙_}
 use mathlib.Core.List.{List, [], _∷_, _++_, map, List·Memᴰ, List·Memᴰ·head, List·Memᴰ·tail, List·Memᴰ·not-nil, Memᴰ·cast, map-append, append-nil, append-assoc}
 use lib.ListN.{length, getD, set, drop, length-map, List·getD-append}
-use lib.Seq.{ext-getD, set-at, getD-at, drop-cons, drop-length}
+use lib.Seq.{ext-getD, set-at, drop-cons, drop-length}
 use Rattle.lists.specs.Rows.{upFrom, written}
 
 -- k numbers
@@ -94,13 +94,6 @@ module _ {ℓ} {A : Type ℓ} (d : A) (f : ℕ → A) (xs : List A) where
   written-at k i h =
       let l : i < length (map f (upFrom 0 k)) = simp (length-map, length-upFrom) h in
       List·getD-append (map f (upFrom 0 k)) (drop k xs) d i l ∙ getD-each d f k i h
-
-  -- and the next one, which is not
-  pub written-rest : (k : ℕ) → k < length xs → getD (written f k xs) k d ≡ getD xs k d
-  unfolding written
-  written-rest k h =
-      let l : length (map f (upFrom 0 k)) ≡ k = simp (length-map, length-upFrom) in
-      rw (drop-cons xs k d h) (getD-at (map f (upFrom 0 k)) (getD xs k d) (drop (suc k) xs) d k l)
 
 -- functions that agree below k write the same
 pub written-same {ℓ} : {A : Type ℓ} (d : A) (f g : ℕ → A) (xs : List A) (k : ℕ) → ((i : ℕ) → i < k → f i ≡ g i) → written f k xs ≡ written g k xs

@@ -1,5 +1,5 @@
 -- From a test that antt computes to a rule: at every number below a bound, and at every member of a list.
-use Prim.Native.Nat.{ℕ, zero, suc, _+_, _<_}
+use Prim.Native.Nat.{ℕ, zero, suc, _+_, _≤_, _<_}
 use native.Mathlib.Nat.{le-of-suc-le-suc, not-suc-le-zero, add-zero, zero-add, add-suc, suc-add}
 use native.Mathlib.Omega.{arith}
 use mathlib.Core.Path.{_≡_, refl}
@@ -75,3 +75,16 @@ of-four P h (a ∷ (b ∷ [])) e = absurd (omega arith)
 of-four P h (a ∷ (b ∷ (c ∷ []))) e = absurd (omega arith)
 of-four P h (a ∷ (b ∷ (c ∷ (d ∷ [])))) e = h a b c d
 of-four P h (a ∷ (b ∷ (c ∷ (d ∷ (x ∷ es))))) e = absurd (omega arith)
+
+-- what is known of a number that no arm of a `match` with arms 0 to n - 1 takes
+abbrev pub NoArm : ℕ → ℕ → Type 0
+NoArm x zero = Prim.Unit {0}
+NoArm x (suc n) = NoArm x n × (x ≡ n → Prim.⊥)
+
+-- it is past them
+pub past-arms : (x n : ℕ) → NoArm x n → n ≤ x
+past-arms x zero h = omega arith
+past-arms x (suc n) h =
+    let m : n ≤ x = past-arms x n (h .0) in
+    let e : x ≡ n → Prim.⊥ = h .1 in
+    omega arith

@@ -3,8 +3,9 @@ ghost use mathlib.Core.Path.{_≡_};
 ghost use Prim.Native.Nat.{_^_, _<_, _≤_};
 ghost use Rattle.bptc.specs.Colour.{Below, each, both, sqDiff, distSq};
 ghost use Rattle.bptc.specs.Shown.{pShown};
-ghost use Rattle.bptc.specs.Palette.{blend};
-ghost use Rattle.bptc.specs.Pixels.{pixelOf};
+ghost use Rattle.bptc.specs.Palette.{blend, colour};
+ghost use Rattle.bptc.specs.Pixels.{pixelWord, pixelOf};
+use bptc::Colour;
 use bptc::Rgb;
 
 // A byte as a number that may be subtracted and squared.
@@ -58,16 +59,23 @@ fn interpolate(weight: u16, a: u8, b: u8) -> u8
     (((256 - weight) * wide16(a) + weight * wide16(b) + 128) / 256) as u8
 }
 
-// The colour between two. Requires a weight in parts of 256.
-pub fn interpolate_rgb(weight: u16, e0: Rgb, e1: Rgb) -> Rgb
-    requires { ⌜ weight ≤ 256 ⌝ }
-    ensures { λ r. ⌜ r ≡ both (blend weight) e0 e1 ⌝ }
+// A colour as one number: red lowest, then green, then blue.
+pub fn word(c: Rgb) -> u32
+    ensures { λ r. ⌜ r ≡ pixelWord c ⌝ }
 {
-    Rgb {
+    wide(c.r) + wide(c.g) * 256 + wide(c.b) * 65536
+}
+
+// The colour between two. Requires a weight in parts of 256.
+pub fn interpolate_rgb(weight: u16, e0: Rgb, e1: Rgb) -> Colour
+    requires { ⌜ weight ≤ 256 ⌝ }
+    ensures { λ r. ⌜ r ≡ colour (both (blend weight) e0 e1) ⌝ }
+{
+    Colour(word(Rgb {
         r: interpolate(weight, e0.r, e1.r),
         g: interpolate(weight, e0.g, e1.g),
         b: interpolate(weight, e0.b, e1.b),
-    }
+    }))
 }
 
 // The square of the difference of two channels.

@@ -1,9 +1,9 @@
-// The lowest layer of code for BC7 blocks in modes 1 and 3: partitions, shown colours, palettes and distances.
+// The lowest layer of code for BC7 blocks in modes 1 and 3: shown colours, palettes and distances.
+pub use bptc::Colour;
 pub use bptc::Rgb;
 
 pub mod colour;
 pub mod palettes;
-pub mod table;
 
 // Mode 1: one p-bit for each subset.
 pub struct Mode1;

@@ -7,11 +7,12 @@ ghost use Rattle.lists.specs.Rows.{upFrom};
 ghost use Rattle.bptc.specs.Mode.{mode1, mode3, modeNumbered};
 ghost use Rattle.bptc.specs.Colour.{black, Below};
 ghost use Rattle.bptc.specs.Shown.{Stored, endShownBy};
-ghost use Rattle.bptc.specs.Palette.{blendedRow, blendedRows, palettes};
+ghost use Rattle.bptc.specs.Palette.{blendedRows, coloured, palettes};
 use crate::Mode1;
 use crate::Mode3;
 use crate::colour::interpolate_rgb;
 use crate::colour::p_promote;
+use bptc::Colour;
 use bptc::Rgb;
 
 // The weights at indices of two bits, in parts of 256.
@@ -34,37 +35,30 @@ fn end_shown(bits: u32, p_bits: u32, ends: [Rgb; 4], p: u8, k: usize) -> Rgb
     p_promote(bits, c, (p >> i) % 2)
 }
 
-// The first colours between two that are shown, and black after them.
-fn row(weights: &[u16; 8], colours: usize, a: Rgb, b: Rgb) -> [Rgb; 8]
-    requires few { ⌜ colours ≤ 8 ⌝ }
-    requires light { ⌜ ((k : ℕ) → k < colours → getD (now weights) k 0 ≤ 256) ⌝ }
-    ensures { λ r. ⌜ r ≡ blendedRow (now (weights .entry)) colours a b ⌝ }
-{
-    let none = Rgb { r: 0, g: 0, b: 0 };
-    let mut out = [none; 8];
-    let mut k: usize = 0;
-    while k < colours {
-        out[k] = interpolate_rgb(weights[k], a, b);
-        k += 1;
-    }
-    out
-}
-
 // The palette between e[0] and e[1] and that between e[2] and e[3]: as many colours as the mode has, then black.
 // Requires no more colours than a row has, and weights in parts of 256.
-pub fn rows(weights: &[u16; 8], colours: usize, e: [Rgb; 4]) -> [[Rgb; 8]; 2]
+pub fn rows(weights: &[u16; 8], colours: usize, e: [Rgb; 4]) -> [[Colour; 8]; 2]
     requires few { ⌜ colours ≤ 8 ⌝ }
     requires light { ⌜ ((k : ℕ) → k < colours → getD (now weights) k 0 ≤ 256) ⌝ }
-    ensures { λ r. ⌜ r ≡ blendedRows (now (weights .entry)) colours e ⌝ }
+    ensures { λ r. ⌜ r ≡ coloured (blendedRows (now (weights .entry)) colours e) ⌝ }
 {
-    [
-        row(weights, colours, e[0], e[1]),
-        row(weights, colours, e[2], e[3]),
-    ]
+    let e0 = e[0];
+    let e1 = e[1];
+    let e2 = e[2];
+    let e3 = e[3];
+    let mut first = [Colour(0); 8];
+    let mut second = [Colour(0); 8];
+    let mut k: usize = 0;
+    while k < colours {
+        first[k] = interpolate_rgb(weights[k], e0, e1);
+        second[k] = interpolate_rgb(weights[k], e2, e3);
+        k += 1;
+    }
+    [first, second]
 }
 
-// The colours that the four endpoints show, by the widths of a mode.
-fn ends_shown(bits: u32, p_bits: u32, ends: [Rgb; 4], p: u8) -> [Rgb; 4]
+// The colours that the four endpoints show, by the widths of a mode. Requires widths that a mode can have, and channels within them.
+pub fn ends_shown(bits: u32, p_bits: u32, ends: [Rgb; 4], p: u8) -> [Rgb; 4]
     requires wide { ⌜ 3 ≤ bits ⌝ }
     requires narrow { ⌜ bits ≤ 7 ⌝ }
     requires most { ⌜ «p_bits» ≤ 4 ⌝ }
@@ -81,9 +75,9 @@ fn ends_shown(bits: u32, p_bits: u32, ends: [Rgb; 4], p: u8) -> [Rgb; 4]
 
 impl Mode1 {
     // Both palettes, a row of eight colours for each subset. Requires that the endpoints are within the mode's width.
-    pub fn palettes(ends: [Rgb; 4], p: u8) -> [[Rgb; 8]; 2]
+    pub fn palettes(ends: [Rgb; 4], p: u8) -> [[Colour; 8]; 2]
         requires { ⌜ Stored mode1 ends ⌝ }
-        ensures { λ r. ⌜ r ≡ palettes mode1 ends p ⌝ }
+        ensures { λ r. ⌜ r ≡ coloured (palettes mode1 ends p) ⌝ }
     {
         let shown = ends_shown(Self::CHANNEL_BITS, Self::P_BITS, ends, p);
         rows(&WEIGHTS_3, Self::COLOURS, shown)
@@ -92,9 +86,9 @@ impl Mode1 {
 
 impl Mode3 {
     // Both palettes, four colours and black in each row. Requires that the endpoints are within the mode's width.
-    pub fn palettes(ends: [Rgb; 4], p: u8) -> [[Rgb; 8]; 2]
+    pub fn palettes(ends: [Rgb; 4], p: u8) -> [[Colour; 8]; 2]
         requires { ⌜ Stored mode3 ends ⌝ }
-        ensures { λ r. ⌜ r ≡ palettes mode3 ends p ⌝ }
+        ensures { λ r. ⌜ r ≡ coloured (palettes mode3 ends p) ⌝ }
     {
         let shown = ends_shown(Self::CHANNEL_BITS, Self::P_BITS, ends, p);
         rows(&WEIGHTS_2, Self::COLOURS, shown)
@@ -102,9 +96,9 @@ impl Mode3 {
 }
 
 // Both palettes by the mode's number, 1 and else 3. Requires that the endpoints are within the mode's width.
-pub fn palettes(mode: u8, ends: [Rgb; 4], p: u8) -> [[Rgb; 8]; 2]
+pub fn palettes(mode: u8, ends: [Rgb; 4], p: u8) -> [[Colour; 8]; 2]
     requires { ⌜ Stored (modeNumbered mode) ends ⌝ }
-    ensures { λ r. ⌜ r ≡ palettes (modeNumbered mode) ends p ⌝ }
+    ensures { λ r. ⌜ r ≡ coloured (palettes (modeNumbered mode) ends p) ⌝ }
 {
     match mode {
         1 => Mode1::palettes(ends, p),

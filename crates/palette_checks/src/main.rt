@@ -1,9 +1,14 @@
-// Prints what the crates palette and search give for worked examples; the gate holds it to the file `stdout`.
+// Prints what the crates palette and finishing give for worked examples; the gate holds it to the file `stdout`.
 ghost use mathlib.Core.Path.{_≡_};
 ghost use Prim.Native.Nat.{_<_, _≤_};
 ghost use lib.ListN.{length};
-use bptc::Closest;
+ghost use Rattle.bptc.specs.Mode.{mode1, mode3};
+ghost use Rattle.bptc.specs.Shown.{Stored};
+use bptc_block::PBits;
+use finishing::Indices;
+use finishing::nearest;
 use libc::STDOUT_FILENO;
+use palette::Colour;
 use palette::Mode1;
 use palette::Mode3;
 use palette::Rgb;
@@ -54,13 +59,13 @@ fn put_shown(e: u8, p: u8)
 }
 
 // The reds of the first colours of a row.
-fn put_row(row: [Rgb; 8], colours: usize)
+fn put_row(row: [Colour; 8], colours: usize)
     requires { ⌜ colours ≤ 8 ⌝ }
 {
     let mut k: usize = 0;
     while k < colours {
         let c = row[k];
-        put(c.r as u32);
+        put(c.0 % 256);
         space();
         k += 1;
     }
@@ -86,7 +91,7 @@ fn first_of_second(partition: usize) -> usize
 {
     let mut i: usize = 0;
     while i < 16 {
-        if palette::table::subset(partition, i) == 1 {
+        if partitions::subset(partition, i) == 1 {
             return i;
         }
         i += 1;
@@ -100,15 +105,15 @@ fn put_partition(partition: usize)
 {
     let mut i: usize = 0;
     while i < 16 {
-        put(palette::table::subset(partition, i) as u32);
+        put(partitions::subset(partition, i) as u32);
         i += 1;
     }
     space();
-    put(palette::table::size(partition));
+    put(partitions::size(partition));
     space();
     put(first_of_second(partition) as u32);
     space();
-    put(palette::table::anchor(partition) as u32);
+    put(partitions::anchor(partition) as u32);
     line();
 }
 
@@ -125,8 +130,10 @@ fn pixels() -> [u8; 48]
     out
 }
 
-// Palettes of mode 1.
-fn palettes1(partition: usize) -> [[Rgb; 8]; 2] {
+// Endpoints of mode 1.
+fn ends1() -> [Rgb; 4]
+    ensures { λ r. ⌜ Stored mode1 r ⌝ }
+{
     let a = Rgb { r: 3, g: 60, b: 17 };
     let b = Rgb { r: 55, g: 8, b: 40 };
     let c = Rgb {
@@ -135,11 +142,13 @@ fn palettes1(partition: usize) -> [[Rgb; 8]; 2] {
         b: 22,
     };
     let d = Rgb { r: 63, g: 0, b: 33 };
-    Mode1::palettes([a, b, c, d], (partition % 4) as u8)
+    [a, b, c, d]
 }
 
-// Palettes of mode 3.
-fn palettes3(partition: usize) -> [[Rgb; 8]; 2] {
+// Endpoints of mode 3.
+fn ends3() -> [Rgb; 4]
+    ensures { λ r. ⌜ Stored mode3 r ⌝ }
+{
     let a = Rgb {
         r: 3,
         g: 120,
@@ -160,56 +169,52 @@ fn palettes3(partition: usize) -> [[Rgb; 8]; 2] {
         g: 0,
         b: 99,
     };
-    Mode3::palettes([a, b, c, d], (partition % 16) as u8)
+    [a, b, c, d]
 }
 
-// The search in a mode over one subset of a partition.
-fn find(mode: u8, partition: usize, subset: u8) -> Closest
-    requires inside { ⌜ partition < 64 ⌝ }
-    requires two { ⌜ subset < 2 ⌝ }
+// The indices, of so many numbers each, the p-bits and the error of both subsets.
+fn put_found(found: Indices, numbers: u64)
+    requires { ⌜ 0 < numbers ⌝ }
 {
-    let bytes = pixels();
-    let words = search::pixels::pixel_words(&bytes);
-    let mask = palette::table::mask(partition);
-    let second = search::pixels::members(mask, 1);
-    let raises = search::pixels::raises(&words, &second);
-    let members = search::pixels::members(mask, subset);
-    let s = subset as usize;
-    match mode {
-        1 => search::mode1::closest_rgb(palettes1(partition)[s], &words, &members, raises[s]),
-        _ => search::mode3::closest_rgb(palettes3(partition)[s], &words, &members, raises[s]),
-    }
-}
-
-// The indices of a subset, and its error.
-fn put_closest(found: Closest) {
-    let indices = found.indices;
+    let mut left = found.indexes;
     let mut i: usize = 0;
     while i < 16 {
-        put_index(indices[i]);
+        put_index((left % numbers % 256) as u8);
+        left = left / numbers;
         i += 1;
     }
+    space();
+    put_index(found.p);
     space();
     put(found.error);
     line();
 }
 
-// A partition, and the search over both its subsets in both modes.
-fn put_searches(partition: usize)
+// The search in both modes over a partition, at p-bits that are fixed or free.
+fn put_searches(partition: usize, p1: PBits, p3: PBits)
+    requires { ⌜ partition < 64 ⌝ }
+{
+    let bytes = pixels();
+    say(b"mode 1 ");
+    put_found(nearest(1, ends1(), p1, &bytes, partition), 8);
+    say(b"mode 3 ");
+    put_found(nearest(3, ends3(), p3, &bytes, partition), 4);
+}
+
+// A partition, and the searches over it.
+fn put_all(partition: usize)
     requires { ⌜ partition < 64 ⌝ }
 {
     say(b"partition ");
     put(partition as u32);
     space();
     put_partition(partition);
-    say(b"mode 1 subset 0 ");
-    put_closest(find(1, partition, 0));
-    say(b"mode 1 subset 1 ");
-    put_closest(find(1, partition, 1));
-    say(b"mode 3 subset 0 ");
-    put_closest(find(3, partition, 0));
-    say(b"mode 3 subset 1 ");
-    put_closest(find(3, partition, 1));
+    put_searches(
+        partition,
+        PBits::Fixed((partition % 4) as u8),
+        PBits::Fixed((partition % 16) as u8),
+    );
+    put_searches(partition, PBits::Free, PBits::Free);
 }
 
 // The examples, one after the other.
@@ -220,7 +225,7 @@ fn main() {
     put_palettes();
     let mut partition: usize = 0;
     while partition < 64 {
-        put_searches(partition);
+        put_all(partition);
         partition += 1;
     }
 }

@@ -62,7 +62,7 @@ pub fn corners(pixels: &[u8], partition: usize, subset: u8) -> Bounds
     };
     let mut i: usize = 0;
     while i < 16 {
-        if palette::table::subset(partition, i) == subset {
+        if partitions::subset(partition, i) == subset {
             bounds = widened(bounds, pixel(pixels, i));
         }
         i += 1;

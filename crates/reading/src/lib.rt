@@ -13,7 +13,7 @@ use bptc_block::Fields;
 use palette::Mode1;
 use palette::Mode3;
 use palette::colour::wide;
-use palette::table::anchor;
+use partitions::anchor;
 
 // Byte k of a block, and 0 past its end.
 fn byte(block: &[u8], k: usize) -> u32

@@ -1,9 +1,14 @@
-// The search of closest_rgb over the pixels of one subset: the nearest index of each in a row of colours.
-mod keys;
+// The search for the nearest colours of a block's pixels at given p-bits, each in the palette of its own subset.
+mod indexes;
+pub mod keys;
 pub mod mode1;
 pub mod mode3;
-pub mod pixels;
-mod product;
+pub mod numbers;
+pub mod pick;
 
-// The greatest distance between two colours.
-pub const GREATEST: u32 = 3 * 255 * 255;
+// What a search finds: the indices as one number with the first lowest, and the raised distances of all pixels and of those of subset 1.
+pub struct Found {
+    pub indexes: u64,
+    pub all: u32,
+    pub second: u32,
+}

@@ -75,13 +75,13 @@ narrowed-requires-2 c κs =
     (omega arith, simp (ne-eqb _ _ (c .match .rest .1)) at small)
 
 cast-write-words : tie.Need-cast-write-words
-cast-write-words c = record { fits = taken (c .before) .partition-byte }
-
-cast-t18 : tie.Need-cast-t18
-cast-t18 c = record { fits = taken (c .before) .p-byte }
+cast-write-words c = record { fits = taken (c .before) .mode-byte }
 
 cast-write-words-2 : tie.Need-cast-write-words-2
-cast-write-words-2 c = record { fits = taken (c .before) .mode-byte }
+cast-write-words-2 c = record { fits = taken (c .before) .partition-byte }
+
+cast-write-words-3 : tie.Need-cast-write-words-3
+cast-write-words-3 c = record { fits = taken (c .before) .p-byte }
 
 write-words-requires : tie.Need-write-words-requires
 write-words-requires c κs =
@@ -107,8 +107,8 @@ bc7-pack-spec =
     narrowed-requires
     narrowed-requires-2
     cast-write-words
-    cast-t18
     cast-write-words-2
+    cast-write-words-3
     write-words-requires
     same-length
     returns-3)

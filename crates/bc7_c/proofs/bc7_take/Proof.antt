@@ -3,8 +3,8 @@ use native.Mathlib.Omega.{arith}
 use mathlib.Core.Path.{_≡_, refl}
 use lib.ListN.{length}
 use borrow.Author.Tests.{eq-eqb, ne-eqb}
-use Rattle.bc7_c.specs.Calls.{takeAnswer, takeBlock}
 use borrow.Author.Needs.{needs}
+use Rattle.bc7_c.specs.Calls.{takeAnswer, takeBlock}
 use Rattle.bc7_c.proofs.bc7_take.Statement.{statement}
 use Rattle.bc7_c.proofs.bc7_take.Tie as tie
 
@@ -21,6 +21,9 @@ chooser-in-requires c κs = search needs
 take-requires : tie.Need-take-requires
 take-requires c κs = search needs
 
+cast-answer : tie.Need-cast-answer
+cast-answer c = search needs
+
 answer-requires-2 : tie.Need-answer-requires-2
 answer-requires-2 c κs = search needs
 
@@ -30,8 +33,8 @@ same-length c = search needs
 returns-2 : tie.Need-returns-2
 unfolding takeAnswer takeBlock
 returns-2 c =
-    let t = c .before .before .before in
-    let whole : length (c .before .before .before .before .before .before .before .before .before .args .chooser .now) ≡ 68 = omega arith in
+    let t = c .before .before .before .before in
+    let whole : length (t .before .before .before .before .before .before .args .chooser .now) ≡ 68 = omega arith in
     rw (eq-eqb _ 68 whole, ← t .before .before .chooser-in .ensures) (rw (t .take .ensures .0) at (c .answer2 .ensures), t .take .ensures .1)
 
 pub bc7-take-spec : {M : Type 1} → statement M
@@ -42,6 +45,7 @@ bc7-take-spec =
     returns
     chooser-in-requires
     take-requires
+    cast-answer
     answer-requires-2
     same-length
     returns-2)

@@ -8,8 +8,8 @@ use borrow.Author.Needs.{needs}
 use Rattle.bptc_block.specs.declared.Candidate.{Candidate}
 use Rattle.bptc_block.specs.FinishCall.{finishRefusal, finishOf}
 use Rattle.bptc_block.proofs.Refusals.{Good}
-use Rattle.bptc_block.proofs.FinishCall.{finish-number, finish-declined, finish-leaves, finish-answer, finish-block, finish-pixels, finish-sixteen, finish-good}
-use Rattle.bptc_block.proofs.Merged.{block-found, fields-plain}
+use Rattle.bptc_block.proofs.FinishCall.{finish-number, finish-declined, finish-leaves, finish-answer, finish-block, finish-pixels, finish-sixteen, finish-accepted, finish-good}
+use Rattle.bptc_block.proofs.WordEnds.{candidate-again}
 use Rattle.block.proofs.finish.Statement.{statement}
 use Rattle.block.proofs.finish.Tie as tie
 
@@ -54,28 +54,28 @@ returns c =
     let ne : finishRefusal (px r) (k r) (part r) ≡ 0 → ⊥ = λ e. c .if1 .taken (number r ∙ e) in
     (ap (λ (n : ℕ). record { refusal = n; error = 0 }) (number r) ∙ sym (finish-declined (px r) (k r) (part r) ne), sym (finish-leaves (px r) (k r) (part r) ne))
 
-fields-for-requires : tie.Need-fields-for-requires
-fields-for-requires c κs =
-    let r = c .before in
-    let none : r .lengths-refusal .result ≡ 0 = omega arith in
-    (finish-pixels (px r) (k r) (part r) (ok r none), (fit r none .partition, (λ j h. fit r none .stored j (omega (arith, four r)))))
+words-requires : tie.Need-words-requires
+words-requires c κs = search needs
 
-write-block-requires : tie.Need-write-block-requires
-write-block-requires c κs =
-    let r = c .before .before .before .before in
+finish-words-requires : tie.Need-finish-words-requires
+finish-words-requires c κs =
+    let w = c .before in
+    let r = w .before .before .before in
     let none : r .lengths-refusal .result ≡ 0 = omega arith in
-    (rw (c .before .before .fields-for .ensures .0) (fields-plain (px r) (k r) (fit r none) (four r)), finish-sixteen (px r) (k r) (part r) (ok r none))
+    rw (w .words .ensures, candidate-again (k r) (fit r none) (four r))
+    (finish-pixels (px r) (k r) (part r) (ok r none), (finish-sixteen (px r) (k r) (part r) (ok r none), finish-accepted (px r) (k r) (part r) (ok r none)))
 
 same-length : tie.Need-same-length
 same-length c = search needs
 
 returns-2 : tie.Need-returns-2
 returns-2 c =
-    let found = c .before .before .before .before .before in
-    let r = found .before .before in
-    let none : r .lengths-refusal .result ≡ 0 = omega arith in (
-      ap (λ (n : ℕ). record { refusal = 0; error = n }) (found .fields-for .ensures .1) ∙ sym (finish-answer (px r) (k r) (part r) (ok r none)),
-      c .before .before .write-block .ensures ∙ rw (found .fields-for .ensures .0) (block-found (px r) (k r) ∙ sym (finish-block (px r) (k r) (part r) (ok r none))),
+    let w = c .before .before .before .before in
+    let r = w .before .before .before in
+    let none : r .lengths-refusal .result ≡ 0 = omega arith in
+    let same = candidate-again (k r) (fit r none) (four r) in (
+      ap (λ (n : ℕ). record { refusal = 0; error = n }) (rw (w .words .ensures, same) at (c .before .before .finish-words .ensures .0)) ∙ sym (finish-answer (px r) (k r) (part r) (ok r none)),
+      rw (w .words .ensures, same) at (c .before .before .finish-words .ensures .1) ∙ sym (finish-block (px r) (k r) (part r) (ok r none)),
     )
 
 pub finish-spec : {M : Type 1} → statement M
@@ -85,7 +85,7 @@ finish-spec =
     candidate-refusal-requires
     lengths-refusal-requires
     returns
-    fields-for-requires
-    write-block-requires
+    words-requires
+    finish-words-requires
     same-length
     returns-2)

@@ -25,8 +25,8 @@ put-palettes-requires c κs = search needs
 loop-holds : tie.Need-loop-holds Inv-loop μ-loop
 loop-holds c = search needs
 
-put-searches-requires : tie.Need-put-searches-requires Inv-loop μ-loop
-put-searches-requires c κs = search needs
+put-all-requires : tie.Need-put-all-requires Inv-loop μ-loop
+put-all-requires c κs = search needs
 
 add-partition : tie.Need-add-partition Inv-loop μ-loop
 add-partition c = search needs
@@ -51,7 +51,7 @@ main-spec =
     put-shown-requires-3
     put-palettes-requires
     loop-holds
-    put-searches-requires
+    put-all-requires
     add-partition
     loop-less
     loop-again

@@ -19,9 +19,6 @@ mul-c c = search needs
 array-copy-out-c : tie.Need-array-copy-out-c Inv-loop μ-loop
 array-copy-out-c c = search needs
 
-cast-put : tie.Need-cast-put Inv-loop μ-loop
-cast-put c = search needs
-
 put-requires : tie.Need-put-requires Inv-loop μ-loop
 put-requires c κs = search needs
 
@@ -52,7 +49,6 @@ put-row-spec =
     loop-holds
     mul-c
     array-copy-out-c
-    cast-put
     put-requires
     space-requires
     add-k

@@ -5,13 +5,13 @@ use Rattle.bits.proofs.writing.block_bits.Tie as tie
 
 mode1-requires : tie.Need-mode1-requires
 mode1-requires c κs =
-    let (plain, (list, rest)) = c .before .pre in
-    (simp (c .match .keys1) at plain, (simp (c .match .keys1) at list, rest))
+    let (plain, list) = c .before .pre in
+    (simp (c .match .keys1) at plain, simp (c .match .keys1) at list)
 
 mode3-requires : tie.Need-mode3-requires
 mode3-requires c κs =
-    let (plain, (list, rest)) = c .before .pre in
-    (simp (ne-eqb _ _ (c .match .rest .1)) at plain, (simp (ne-eqb _ _ (c .match .rest .1)) at list, rest))
+    let (plain, list) = c .before .pre in
+    (simp (ne-eqb _ _ (c .match .rest .1)) at plain, simp (ne-eqb _ _ (c .match .rest .1)) at list)
 
 returns : tie.Need-returns
 returns c = simp (c .before .match .keys1) (c .mode1 .ensures)

@@ -4,18 +4,6 @@ use borrow.Author.Needs.{needs}
 use Rattle.bits.proofs.writing.write_words.Statement.{statement}
 use Rattle.bits.proofs.writing.write_words.Tie as tie
 
-cast-partition : tie.Need-cast-partition
-cast-partition c = search needs
-
-mask-requires : tie.Need-mask-requires
-mask-requires c κs = search needs
-
-anchor-requires : tie.Need-anchor-requires
-anchor-requires c κs = search needs
-
-cast-block-bits : tie.Need-cast-block-bits
-cast-block-bits c = search needs
-
 block-bits-requires : tie.Need-block-bits-requires
 block-bits-requires c κs = search needs
 
@@ -30,13 +18,4 @@ returns c = c .before .before .write-bytes .ensures ∙ c .before .before .befor
 
 pub write-words-spec : {M : Type 1} → statement M
 write-words-spec =
-    tie.close
-    (tie.spec
-    cast-partition
-    mask-requires
-    anchor-requires
-    cast-block-bits
-    block-bits-requires
-    write-bytes-requires
-    same-length
-    returns)
+    tie.close (tie.spec block-bits-requires write-bytes-requires same-length returns)

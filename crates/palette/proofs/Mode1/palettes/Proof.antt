@@ -4,7 +4,7 @@ use mathlib.Core.Path.{ap, _∙_}
 use borrow.Author.Needs.{needs}
 use Rattle.bptc.specs.Mode.{mode1, largest}
 use Rattle.bptc.specs.Shown.{endShown}
-use Rattle.bptc.specs.Palette.{rowWeights, blendedRows}
+use Rattle.bptc.specs.Palette.{rowWeights, blendedRows, coloured}
 use Rattle.bptc.proofs.Modes.{shades1}
 use Rattle.bptc.proofs.Shading.{row-light, palettes-blended}
 use Rattle.palette.proofs.Mode1.palettes.Statement.{statement}
@@ -21,7 +21,8 @@ returns : tie.Need-returns
 unfolding largest endShown
 returns c =
     let shown = c .before .before in
-    c .rows .ensures ∙ ap (blendedRows (rowWeights mode1) 8) (shown .ends-shown .ensures) ∙ palettes-blended mode1 shades1 (omega arith) (shown .before .args .ends) (shown .before .args .p)
+    c .rows .ensures
+    ∙ ap coloured (ap (blendedRows (rowWeights mode1) 8) (shown .ends-shown .ensures) ∙ palettes-blended mode1 shades1 (omega arith) (shown .before .args .ends) (shown .before .args .p))
 
 pub palettes-spec : {M : Type 1} → statement M
 palettes-spec = tie.close (tie.spec ends-shown-requires rows-requires returns)

@@ -12,9 +12,15 @@ interpolate-requires-2 c κs = search needs
 interpolate-requires-3 : tie.Need-interpolate-requires-3
 interpolate-requires-3 c κs = search needs
 
+word-requires : tie.Need-word-requires
+word-requires c κs = search needs
+
 returns : tie.Need-returns
-returns c = simp (c .before .before .interpolate .ensures, c .before .interpolate2 .ensures, c .interpolate3 .ensures)
+returns c =
+    let b = c .before in
+    simp (c .word .ensures, b .before .before .interpolate .ensures, b .before .interpolate2 .ensures, b .interpolate3 .ensures)
 
 pub interpolate-rgb-spec : {M : Type 1} → statement M
 interpolate-rgb-spec =
-    tie.close (tie.spec interpolate-requires interpolate-requires-2 interpolate-requires-3 returns)
+    tie.close
+    (tie.spec interpolate-requires interpolate-requires-2 interpolate-requires-3 word-requires returns)

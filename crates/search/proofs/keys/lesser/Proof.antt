@@ -1,10 +1,10 @@
 -- `search::keys::lesser` meets its contract: below 2 ^ 31 the order of signed numbers is that of the keys.
+use borrow.Author.Needs.{needs}
 use Prim.Native.Nat.{ℕ, _^_, _<_}
 use mathlib.Core.Path.{_≡_, sym, ap, ap₂, _∙_}
 use mathlib.Core.Bool.{Bool}
 use lib.Dec.{ltb}
 use lib.Signed.{ltZ}
-use borrow.Author.Needs.{needs}
 use mir.Syntax.{w32}
 use mir.Val.{toZ}
 use mir.Facts.{toZ-pos}

@@ -1,57 +1,105 @@
--- `search::mode3::closest_rgb` meets its contract: each step keeps the least keys of the colours so far.
-use native.Mathlib.Omega.{arith}
-use mathlib.Core.Path.{_≡_, refl, _∙_}
+-- `search::mode3::closest_rgb` meets its contract: the least keys tell the nearest indices and the distances.
 use borrow.Author.Needs.{needs}
+use native.Mathlib.Omega.{arith}
+use Prim.Native.Nat.{ℕ, _+_, _*_, _%_, _^_, _<_}
+use mathlib.Core.Path.{_≡_, ap, _∙_}
+use mathlib.Core.List.{List}
+use lib.ListN.{getD}
+use Rattle.lists.specs.Bytes.{Bytes}
+use Rattle.bptc.specs.declared.Colour.{Colour}
 use Rattle.bptc.specs.Mode.{mode3, largest}
-use Rattle.bptc.proofs.LeastKeys.{keysTo, first-keys, keys-raised, keys-tell}
+use Rattle.bptc.specs.Colour.{coloursOf}
+use Rattle.bptc.specs.Shown.{endShown}
+use Rattle.bptc.specs.Palette.{rowWeights, blendedRows, palettes, coloured}
+use Rattle.bptc.specs.Pixels.{pixelOf}
+use Rattle.bptc.proofs.Modes.{shades3}
+use Rattle.bptc.proofs.Shading.{row-light, palettes-blended}
+use Rattle.search.specs.Keys.{Steps}
+use Rattle.search.specs.Numbers.{flatRows, numbersOf}
+use Rattle.search.specs.Found.{indexIn, raisedIn}
+use Rattle.search.proofs.RowKeys.{in-range, keyIn, key-below, best-is}
+use Rattle.search.proofs.Telling.{found-is}
+use Rattle.search.proofs.Columns.{best-small, best4, columns-small1}
 use Rattle.search.proofs.mode3.closest_rgb.Statement.{statement}
 use Rattle.search.proofs.mode3.closest_rgb.Tie as tie
 
--- the calls before the last, and the entry, four places apart
-abbrev started : tie.After-last-arg2 → tie.After-start
-started c = c .before .before .before
-
-abbrev begun : tie.After-last-arg2 → tie.Start
-begun c = started c .before .before .before .before
-
--- the least keys over all colours but the last two
-keys : (c : tie.After-last-arg2) → started c .start .last .0 ≡ keysTo (begun c .args .pixels .now) (begun c .args .t1) 1
-keys c =
-    let words = begun c .args .pixels .now in
-    let row = begun c .args .t1 in
-    started c .start .ensures .0 ∙ first-keys words row
-
-array-copy-out-start : tie.Need-array-copy-out-start
-array-copy-out-start c = search needs
-
-array-copy-out-start-2 : tie.Need-array-copy-out-start-2
-array-copy-out-start-2 c = search needs
-
-start-requires : tie.Need-start-requires
-start-requires c κs = search needs
-
-array-copy-out-last : tie.Need-array-copy-out-last
-array-copy-out-last c = search needs
-
-array-copy-out-last-2 : tie.Need-array-copy-out-last-2
-array-copy-out-last-2 c = search needs
-
-last-requires : tie.Need-last-requires
+-- the mode's largest index
+few : largest mode3 < 8
 unfolding largest
-last-requires c κs = (started c .start .ensures .1, (search needs, keys-raised _ _ mode3 _ 1 refl (omega arith) _ _ (keys c) (begun c .pre)))
+few = omega arith
+
+module _ (c : tie.After-numbers-of) where
+  -- the entry
+  abbrev a : tie.Start
+  a = c .before .before .before .before .before
+
+  -- the numbers are those of the mode's palettes
+  made : c .numbers-of .result ≡ numbersOf (λ (k : ℕ). pixelOf (getD (flatRows (coloured (palettes mode3 (a .args .ends) (a .args .p)))) k 0)) (λ (k : ℕ). k % 8)
+  unfolding largest endShown
+  made =
+      c .numbers-of .ensures
+      ∙ ap (λ (rows : List (List Colour)). numbersOf (λ (k : ℕ). pixelOf (getD (flatRows rows) k 0)) (λ (k : ℕ). k % 8))
+      (c .before .rows .ensures
+      ∙ ap coloured (ap (blendedRows (rowWeights mode3) 4) (c .before .before .before .ends-shown .ensures) ∙ palettes-blended mode3 shades3 few (a .args .ends) (a .args .p)))
+
+  -- the pixels are bytes
+  bytes : Bytes (a .args .px .now)
+  bytes i h = c .before .before .before .before .shared-slice-known .given i .fits
+
+  -- the numbers are in range
+  range : Steps (c .numbers-of .result .r) (c .numbers-of .result .g) (c .numbers-of .result .b) (c .numbers-of .result .own)
+  range = in-range mode3 shades3 few (a .args .ends) (a .args .p) (a .pre .0) (c .numbers-of .result) made (a .args .px .now) bytes (a .args .mask)
+
+  -- a key of a pixel is small
+  below : (i j : ℕ) → keyIn mode3 shades3 few (a .args .ends) (a .args .p) (a .pre .0) (c .numbers-of .result) made (a .args .px .now) bytes (a .args .mask) i j < 2 ^ 23
+  below = key-below mode3 shades3 few (a .args .ends) (a .args .p) (a .pre .0) (c .numbers-of .result) made (a .args .px .now) bytes (a .args .mask)
+
+ends-shown-requires : tie.Need-ends-shown-requires
+ends-shown-requires c κs = search needs
+
+rows-requires : tie.Need-rows-requires
+unfolding largest
+rows-requires c κs = (search needs, row-light mode3 shades3 (omega arith))
+
+numbers-of-requires : tie.Need-numbers-of-requires
+numbers-of-requires c κs = search needs
+
+search4-requires : tie.Need-search4-requires
+search4-requires c κs = (c .before .before .before .before .before .before .before .before .before .before .before .before .before .pre .1, range (c .before .before .before .before .before .before .before .before))
+
+least-requires : tie.Need-least-requires
+least-requires c κs = λ n. omega (arith, columns-small1 _ (2 ^ 23) (omega arith) (below (c .before .before .before .before .before .before .before .before .before .before)) _ (c .before .search4 .ensures) n)
+
+summed-requires : tie.Need-summed-requires
+summed-requires c κs =
+    best-small (c .before .before .before .search4 .result) (c .before .least .result) (c .before .least .ensures) (2 ^ 23) (omega arith)
+    (columns-small1 _ (2 ^ 23) (omega arith) (below (c .before .before .before .before .before .before .before .before .before .before .before .before)) _ (c .before .before .before .search4 .ensures))
+
+word2-requires : tie.Need-word2-requires
+word2-requires c κs = search needs
 
 returns : tie.Need-returns
 unfolding largest
-returns c = c .last .ensures ∙ keys-tell _ _ mode3 _ 1 refl (omega arith) _ _ (keys (c .before)) (begun (c .before) .pre)
+returns c =
+    let r = c .before .before .before .before .before .before .before .before .before .before .before .before .before .before .before in
+    let a = r .before .before .before .before .before .args in
+    let cs = coloursOf (a .px .now) in
+    let best = c .before .before .before .before .least .result in
+    let least = best4 (c .before .before .before .before .before .before .search4 .result) best (c .before .before .before .before .least .ensures) _ (c .before .before .before .before .before .before .search4 .ensures) in
+    let told : (i : ℕ) → i < 16 → getD best i 0 ≡ raisedIn mode3 (a .ends) (a .p) (a .mask) cs i * 8 + indexIn mode3 (a .ends) (a .p) (a .mask) cs i =
+    λ i h. best-is mode3 shades3 few (a .ends) (a .p) (r .before .before .before .before .before .pre .0) (r .numbers-of .result) (made r) (a .px .now) (bytes r) (a .mask) i _ (least i h) in
+    let s = c .before .before .summed .ensures in
+    found-is mode3 few (a .ends) (a .p) (a .mask) cs (λ (i : ℕ). getD best i 0) told 4 (λ x n h. omega arith) (c .word2 .ensures) (s .0) (s .1)
 
 pub closest-rgb-spec : {M : Type 1} → statement M
 closest-rgb-spec =
     tie.close
     (tie.spec
-    array-copy-out-start
-    array-copy-out-start-2
-    start-requires
-    array-copy-out-last
-    array-copy-out-last-2
-    last-requires
+    ends-shown-requires
+    rows-requires
+    numbers-of-requires
+    search4-requires
+    least-requires
+    summed-requires
+    word2-requires
     returns)

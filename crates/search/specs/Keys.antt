@@ -1,0 +1,56 @@
+-- The keys that the search compares: a raised distance and an index in one, as a sum.
+use Prim.Native.Nat.{ℕ, _+_, _-_, _*_, _/_, _%_, _^_, _≤_, _<_}
+use mathlib.Core.List.{List}
+use lib.Dec.{ltb}
+use lib.ListN.{getD}
+use Rattle.bptc.specs.declared.Rgb.{Rgb}
+use Rattle.lists.specs.Tests.{pick}
+use Rattle.lists.specs.Digits.{bit}
+use Rattle.bptc.specs.Colour.{black, each, coloursOf, dot, norm}
+
+-- what a colour at index j adds to each of its keys: its squared length times the scale, and the index
+unfoldable pub ownOf : ℕ → Rgb → ℕ → ℕ
+ownOf scale c j = norm c * scale + j
+
+-- what a channel of a colour adds for each step of the pixel's channel
+unfoldable pub stepOf : ℕ → ℕ → ℕ
+stepOf scale x = (255 - x) * (2 * scale)
+
+-- the key of a pixel and the colour at index j; the scale is above every index
+unfoldable pub sumKey : ℕ → Rgb → Rgb → ℕ → ℕ
+sumKey scale p c j = ownOf scale c j + dot p (each (stepOf scale) c)
+
+-- what a pixel's distances are raised by: 195075 less the squared length of its complement
+unfoldable pub raised : Rgb → ℕ
+raised p = p .r * (510 - p .r) + p .g * (510 - p .g) + p .b * (510 - p .b)
+
+-- the lesser of two numbers
+abbrev pub lesserOf : ℕ → ℕ → ℕ
+lesserOf a b = pick (ltb b a) b a
+
+-- the least of four numbers, taken in pairs
+abbrev pub leastOf4 : (ℕ → ℕ) → ℕ
+leastOf4 f = lesserOf (lesserOf (f 0) (f 1)) (lesserOf (f 2) (f 3))
+
+-- the key of a pixel by the numbers that stand at place k
+unfoldable pub keyAt : List ℕ → List ℕ → List ℕ → List ℕ → Rgb → ℕ → ℕ
+keyAt rs gs bs own p k = getD own k 0 + p .r * getD rs k 0 + p .g * getD gs k 0 + p .b * getD bs k 0
+
+-- the key of pixel i and the colour at index j of its subset's row; a row has `width` colours
+unfoldable pub pixelKey : ℕ → List ℕ → List ℕ → List ℕ → List ℕ → List ℕ → ℕ → ℕ → ℕ → ℕ
+pixelKey width rs gs bs own px mask i j = keyAt rs gs bs own (getD (coloursOf px) i black) (bit mask i * width + j)
+
+-- numbers whose keys are below 2 ^ 23
+pub record Steps (rs gs bs own : List ℕ) : Type 0 where
+  pub red : (k : ℕ) → getD rs k 0 ≤ 4080
+  pub green : (k : ℕ) → getD gs k 0 ≤ 4080
+  pub blue : (k : ℕ) → getD bs k 0 ≤ 4080
+  pub alone : (k : ℕ) → getD own k 0 < 2 ^ 21
+
+-- a key that stands at place n of four columns for each pixel: the lesser of two
+unfoldable pub columnOf2 : (ℕ → ℕ → ℕ) → ℕ → ℕ
+columnOf2 key n = lesserOf (key (n / 4) (n % 4)) (key (n / 4) (n % 4 + 4))
+
+-- where each pixel has four colours: the key itself
+unfoldable pub columnOf1 : (ℕ → ℕ → ℕ) → ℕ → ℕ
+columnOf1 key n = key (n / 4) (n % 4)
