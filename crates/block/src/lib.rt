@@ -26,7 +26,7 @@ use reading::fields;
 
 pub mod checks;
 mod colours;
-pub mod pixels;
+mod pixels;
 
 // Packs fields into a lent block, a subset exchanged where its anchor's index has its top bit set. Gives the refusal's number, or 0.
 pub fn pack(

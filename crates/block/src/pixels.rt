@@ -1,11 +1,11 @@
 // The lent pixels: sixteen colours written into them, and their distance from sixteen colours.
 ghost use mathlib.Core.Path.{_≡_};
-ghost use Prim.Native.Nat.{_<_};
 ghost use lib.ListN.{getD, length};
 ghost use Rattle.lists.specs.Rows.{overPixels};
 ghost use Rattle.bptc.specs.Colour.{black, coloursOf, bytesOf, distSq};
 use bptc::Rgb;
 use palette::colour::dist_sq;
+use palette::pixels::pixel_at;
 
 // The bytes of sixteen colours into a pixel part.
 pub(crate) fn write_pixels(colours: [Rgb; 16], pixels: &mut [u8])
@@ -22,19 +22,6 @@ pub(crate) fn write_pixels(colours: [Rgb; 16], pixels: &mut [u8])
     }
 }
 
-// Pixel i. Requires sixteen pixels and one of them.
-pub fn pixel(pixels: &[u8], i: usize) -> Rgb
-    requires sixteen { ⌜ length (now pixels) ≡ 48 ⌝ }
-    requires inside { ⌜ i < 16 ⌝ }
-    ensures { λ r. ⌜ r ≡ getD (coloursOf (now (pixels .entry))) i black ⌝ }
-{
-    Rgb {
-        r: pixels[i * 3],
-        g: pixels[i * 3 + 1],
-        b: pixels[i * 3 + 2],
-    }
-}
-
 // The summed squared distance between pixels and sixteen colours.
 pub(crate) fn distance(colours: [Rgb; 16], pixels: &[u8]) -> u32
     requires { ⌜ length (now pixels) ≡ 48 ⌝ }
@@ -43,7 +30,7 @@ pub(crate) fn distance(colours: [Rgb; 16], pixels: &[u8]) -> u32
     let mut sum: u32 = 0;
     let mut i: usize = 0;
     while i < 16 {
-        sum += dist_sq(pixel(pixels, i), colours[i]);
+        sum += dist_sq(pixel_at(pixels, i), colours[i]);
         i += 1;
     }
     sum

@@ -73,6 +73,11 @@ module _ (m : Mode) (shades : Shades m) where
       (written-same black _ _ (replicate 8 black) (suc (largest m)) (same (endShown m ends p 0) (endShown m ends p 1)))
       (written-same black _ _ (replicate 8 black) (suc (largest m)) (same (endShown m ends p 2) (endShown m ends p 3)))
 
+  -- from the colours that the endpoints show
+  pub palettes-made : largest m < 8 → (ends : List Rgb) (p : ℕ) (shown : List Rgb) → shown ≡ map (endShown m ends p) (upFrom 0 4) →
+      coloured (blendedRows (rowWeights m) (suc (largest m)) shown) ≡ coloured (palettes m ends p)
+  palettes-made few ends p shown e = ap coloured (ap (blendedRows (rowWeights m) (suc (largest m))) e ∙ palettes-blended few ends p)
+
   -- the same colour stands at the mirrored index
   pub shade-mirror : (a b : Rgb) (i : ℕ) → i ≤ largest m → shade m b a (largest m - i) ≡ shade m a b i
   unfolding shade

@@ -20,13 +20,14 @@ use Rattle.lists.proofs.Tables.{tested}
 use Rattle.bptc_block.specs.declared.PBits.the-variants.{Free}
 use Rattle.bptc_block.specs.Finish.{otherBits, bitsFor, joinedBits}
 use Rattle.bptc_block.proofs.Modes.{lawful}
-use Rattle.search.specs.declared.pick.Picked.{Picked}
-use Rattle.search.specs.Found.{indexIn, indexesIn}
-use Rattle.choices.specs.Columns.{columnBits}
-use Rattle.search.specs.Pick.{mixed, pickedFor}
+use Rattle.closest.specs.declared.pick.Picked.{Picked}
+use Rattle.closest.specs.Found.{indexIn, indexesIn}
+use Rattle.choices.specs.Choices.{columnBits}
+use Rattle.closest.specs.Pick.{mixed, pickedFor}
 use Rattle.choices.proofs.Picking.{mixed-picked}
 use Rattle.choices.proofs.Subsets.{over, bits-raised}
-use Rattle.choices.proofs.FourSums.{joined-lt, least-map}
+use Rattle.choice_columns.proofs.FourSums.{joined-lt}
+use Rattle.choices.proofs.BestOfFour.{least-map}
 
 -- what is left of four sums when four others are taken away
 pub four-left : (f g : ℕ → ℕ) (xs ys : List ℕ) → xs ≡ map (λ (c : ℕ). f c + g c) (upFrom 0 4) → ys ≡ map g (upFrom 0 4) →

@@ -1,7 +1,6 @@
-pub mod FourColumns
 pub mod Mixing
 pub mod Subsets
 pub mod Picking
-pub mod FourSums
+pub mod BestOfFour
 pub mod ChoiceKeys
 pub mod ChoicePicking

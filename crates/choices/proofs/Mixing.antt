@@ -11,8 +11,8 @@ use Rattle.lists.specs.Tests.{pick, all}
 use Rattle.lists.specs.Rows.{upFrom}
 use Rattle.lists.proofs.Tables.{tested}
 use Rattle.lists.specs.Bits.{join}
-use Rattle.search.specs.Pick.{mixed}
-use Rattle.search.proofs.Joining.{joinedFrom}
+use Rattle.closest.specs.Pick.{mixed}
+use Rattle.closest.proofs.Joining.{joinedFrom}
 
 -- taken out and put in again
 twice : (x y : ℕ) → x < 8 → y < 8 → bitXor x (bitXor x y) ≡ y

@@ -27,12 +27,12 @@ use Rattle.lists.specs.Bits.{join}
 use Rattle.bptc_block.specs.Finish.{bitsFor, joinedBits, chosenBits}
 use Rattle.bptc_block.proofs.Modes.{Lawful}
 use Rattle.bptc_block.proofs.Chosen.{own-bits, each-nearest}
-use Rattle.search.specs.declared.pick.Picked.{Picked}
-use Rattle.search.specs.Keys.{raised}
-use Rattle.search.specs.Found.{indexIn, raisedIn, indexesIn}
-use Rattle.search.specs.Pick.{raisedAll, mixed, pickedFor}
-use Rattle.search.proofs.KeySums.{channel-sum}
-use Rattle.search.proofs.Joining.{joinedFrom}
+use Rattle.closest.specs.declared.pick.Picked.{Picked}
+use Rattle.keys.specs.Keys.{raised}
+use Rattle.closest.specs.Found.{indexIn, raisedIn, indexesIn}
+use Rattle.closest.specs.Pick.{raisedAll, mixed, pickedFor}
+use Rattle.keys.proofs.KeySums.{channel-sum}
+use Rattle.closest.proofs.Joining.{joinedFrom}
 use Rattle.choices.proofs.Mixing.{mixed-digits}
 use Rattle.choices.proofs.Subsets.{over, errorIn, over-is, rest-all}
 

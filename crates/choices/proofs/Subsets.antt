@@ -20,9 +20,9 @@ use Rattle.bptc.specs.Nearest.{nearest}
 use Rattle.bptc.specs.Closest.{closestIn}
 use Rattle.lists.proofs.Sums.{pixels-same, pixels-add, pixels-split}
 use Rattle.bptc_block.specs.Finish.{otherBits, bitsFor}
-use Rattle.search.specs.Keys.{raised}
-use Rattle.search.specs.Found.{raisedIn}
-use Rattle.search.specs.Pick.{raisedAll}
+use Rattle.keys.specs.Keys.{raised}
+use Rattle.closest.specs.Found.{raisedIn}
+use Rattle.closest.specs.Pick.{raisedAll}
 
 -- adding the same to every error chooses the same
 pub least-raised : (f : ℕ → ℕ) (n best : ℕ) (xs : List ℕ) → firstLeast (λ (p : ℕ). f p + n) best xs ≡ firstLeast f best xs

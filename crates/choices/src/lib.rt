@@ -8,23 +8,22 @@ ghost use Rattle.bptc.specs.Mode.{mode3};
 ghost use Rattle.bptc.specs.Colour.{coloursOf};
 ghost use Rattle.bptc.specs.Shown.{Stored};
 ghost use Rattle.bptc_block.specs.declared.PBits.the-variants.{Free};
-ghost use Rattle.search.specs.Found.{raisedIn, indexesIn, overSecond};
-ghost use Rattle.search.specs.Pick.{pickedFor};
-ghost use Rattle.choices.specs.Columns.{columnBits};
-use crate::keys::search16;
-use crate::numbers::choice_numbers;
-use crate::sums::ColumnSums;
-use crate::sums::best4;
-use crate::sums::column_sums;
+ghost use Rattle.closest.specs.Found.{raisedIn, indexesIn, overSecond};
+ghost use Rattle.closest.specs.Pick.{pickedFor};
+ghost use Rattle.choices.specs.Choices.{columnBits};
+use crate::best::best4;
+use crate::choice::choice_numbers;
 use bptc::Rgb;
+use choice_columns::least::search16;
+use choice_columns::sums::ColumnSums;
+use choice_columns::sums::column_sums;
+use closest::pick::Picked;
+use closest::pick::mix;
 use partitions::entry2;
 use partitions::mask;
-use search::pick::Picked;
-use search::pick::mix;
 
-mod keys;
-mod numbers;
-mod sums;
+mod best;
+mod choice;
 
 // The two p-bits of a column, the lower endpoint's first.
 fn bits_of(column: u32) -> u32
@@ -35,7 +34,7 @@ fn bits_of(column: u32) -> u32
 }
 
 // What the least keys of the four columns tell. Requires endpoints within the mode's width, and sixteen pixels.
-fn columns(ends: [Rgb; 4], px: &[u8], mask: u32) -> ColumnSums
+fn choices(ends: [Rgb; 4], px: &[u8], mask: u32) -> ColumnSums
     requires stored { ⌜ Stored mode3 ends ⌝ }
     requires sixteen { ⌜ length (now px) ≡ 48 ⌝ }
     ensures all { λ r. ⌜ r .all ≡ map (λ c. overPixels (raisedIn mode3 ends (columnBits c) mask (coloursOf (now (px .entry))))) (upFrom 0 4) ⌝ }
@@ -43,12 +42,8 @@ fn columns(ends: [Rgb; 4], px: &[u8], mask: u32) -> ColumnSums
     ensures words { λ r. ⌜ r .words ≡ map (λ c. indexesIn mode3 ends (columnBits c) mask (coloursOf (now (px .entry)))) (upFrom 0 4) ⌝ }
 {
     let numbers = choice_numbers(ends);
-    let rs = numbers.r;
-    let gs = numbers.g;
-    let bs = numbers.b;
-    let own = numbers.own;
-    let out = search16(px, mask, &rs, &gs, &bs, &own);
-    column_sums(&out, mask)
+    let keys = search16(px, mask, &numbers);
+    column_sums(&keys, mask)
 }
 
 // Each subset by itself keeps the first choice of least error.
@@ -59,7 +54,7 @@ pub fn free3(ends: [Rgb; 4], px: &[u8], partition: usize) -> Picked
     requires inside { ⌜ partition < 64 ⌝ }
     ensures { λ r. ⌜ r ≡ pickedFor mode3 partition ends Free (coloursOf (now (px .entry))) ⌝ }
 {
-    let s = columns(ends, px, mask(partition) as u32);
+    let s = choices(ends, px, mask(partition) as u32);
     let all = s.all;
     let one = s.second;
     let words = s.words;

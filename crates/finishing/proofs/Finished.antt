@@ -16,7 +16,7 @@ use Rattle.bptc_rust.proofs.Compressing.{plain-small}
 use Rattle.bptc_block.specs.Finish.{fieldsAt, chosenFields, fieldsFor, finish}
 use Rattle.bptc_block.proofs.Merged.{error-found}
 use Rattle.finishing.specs.declared.Indices.{Indices}
-use Rattle.search.specs.Found.{indexesIn}
+use Rattle.closest.specs.Found.{indexesIn}
 use Rattle.finishing.specs.Indices.{nearestFor}
 
 module _ (px : List ℕ) (c : Candidate) where

@@ -19,10 +19,10 @@ use Rattle.bptc_block.specs.declared.PBits.{PBits}
 use Rattle.bptc_block.specs.declared.PBits.the-variants.{Free, Fixed}
 use Rattle.bptc_block.specs.Finish.{otherBits, bitsFor, bitsIn, joinedBits, chosenBits}
 use Rattle.bptc_block.proofs.Modes.{Lawful, lawful}
-use Rattle.search.specs.declared.Found.{Found}
-use Rattle.search.specs.declared.pick.Picked.{Picked}
-use Rattle.search.specs.Found.{raisedIn, indexesIn, foundAt}
-use Rattle.search.specs.Pick.{mixed, pickedFor}
+use Rattle.closest.specs.declared.Found.{Found}
+use Rattle.closest.specs.declared.pick.Picked.{Picked}
+use Rattle.closest.specs.Found.{raisedIn, indexesIn, foundAt}
+use Rattle.closest.specs.Pick.{mixed, pickedFor}
 use Rattle.choices.proofs.Subsets.{over, over-is, over-all, rest-all, bits-raised}
 use Rattle.choices.proofs.Picking.{all-small, over-sum, mixed-picked}
 

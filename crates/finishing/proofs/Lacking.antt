@@ -11,9 +11,9 @@ use Rattle.bptc.specs.Colour.{black, coloursOf}
 use Rattle.lists.proofs.Bytes.{byte-lt}
 use Rattle.lists.proofs.Sums.{sumTo-suc, pixels-same, pixels-add}
 use Rattle.bptc.proofs.ColourBounds.{colour-at, sq-up}
-use Rattle.search.specs.Keys.{raised}
-use Rattle.search.specs.Pick.{raisedAll}
-use Rattle.search.proofs.KeySums.{channel-sum}
+use Rattle.keys.specs.Keys.{raised}
+use Rattle.closest.specs.Pick.{raisedAll}
+use Rattle.keys.proofs.KeySums.{channel-sum}
 
 -- three places at a time
 by-three : (f : ℕ → ℕ) (k : ℕ) → sumTo f (k * 3) ≡ sumTo (λ (i : ℕ). f (i * 3) + f (i * 3 + 1) + f (i * 3 + 2)) k

@@ -7,7 +7,7 @@ use Rattle.bptc.specs.Partition.{maskOf}
 use Rattle.bptc.specs.Closest.{closestIn}
 use Rattle.bptc_block.specs.declared.PBits.{PBits}
 use Rattle.bptc_block.specs.Finish.{bitsIn, chosenBits}
-use Rattle.search.specs.Found.{indexesIn}
+use Rattle.closest.specs.Found.{indexesIn}
 use Rattle.finishing.specs.declared.Indices.{Indices}
 
 -- the indices at the p-bits that finishing gives, the summed errors of both subsets, and those p-bits

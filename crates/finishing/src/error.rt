@@ -3,7 +3,7 @@ ghost use mathlib.Core.Path.{_≡_};
 ghost use Prim.Native.Nat.{_+_, _≤_};
 ghost use lib.ListN.{length};
 ghost use Rattle.bptc.specs.Colour.{coloursOf};
-ghost use Rattle.search.specs.Pick.{raisedAll};
+ghost use Rattle.closest.specs.Pick.{raisedAll};
 use palette::colour::wide;
 
 // The greatest distance of sixteen pixels.

@@ -6,7 +6,7 @@ ghost use Rattle.bptc.specs.Mode.{modeNumbered};
 ghost use Rattle.bptc.specs.Colour.{coloursOf};
 ghost use Rattle.bptc.specs.Shown.{Stored};
 ghost use Rattle.bptc_block.specs.declared.PBits.the-variants.{Free, Fixed};
-ghost use Rattle.search.specs.Pick.{pickedFor};
+ghost use Rattle.closest.specs.Pick.{pickedFor};
 ghost use Rattle.finishing.specs.Indices.{nearestFor};
 use crate::error::GREATEST;
 use crate::error::lacking;
@@ -16,7 +16,7 @@ use crate::pick::free1;
 use bptc::Rgb;
 use bptc_block::PBits;
 use choices::free3;
-use search::pick::Picked;
+use closest::pick::Picked;
 
 mod error;
 mod pick;

@@ -6,27 +6,31 @@ ghost use Rattle.bptc.specs.Mode.{mode1, mode3};
 ghost use Rattle.bptc.specs.Colour.{coloursOf};
 ghost use Rattle.bptc.specs.Shown.{Stored};
 ghost use Rattle.bptc_block.specs.declared.PBits.the-variants.{Free, Fixed};
-ghost use Rattle.search.specs.Pick.{pickedFor};
+ghost use Rattle.closest.specs.Pick.{pickedFor};
 use bptc::Rgb;
+use closest::indexes::sum;
+use closest::indexes::word;
+use closest::mode1;
+use closest::mode3;
+use closest::pick::Picked;
+use closest::pick::either;
+use closest::pick::either_word;
+use closest::pick::mix;
+use palette::Mode1;
 use partitions::entry3;
 use partitions::mask;
-use search::mode1;
-use search::mode3;
-use search::pick::Picked;
-use search::pick::either;
-use search::pick::either_word;
-use search::pick::mix;
 
 // Mode 1 at fixed p-bits. Requires endpoints within the mode's width, and sixteen pixels.
+// `closest_rgb`, which the compiler does not put in line here, would sum the distances of subset 1 too.
 pub(crate) fn fixed1(ends: [Rgb; 4], p: u8, px: &[u8], partition: usize) -> Picked
     requires stored { ⌜ Stored mode1 ends ⌝ }
     requires sixteen { ⌜ length (now px) ≡ 48 ⌝ }
     ensures { λ r. ⌜ r ≡ pickedFor mode1 partition ends (Fixed p) (coloursOf (now (px .entry))) ⌝ }
 {
-    let t = mode1::closest_rgb(ends, p, px, mask(partition) as u32);
+    let best = mode1::least_keys(ends, p, px, mask(partition) as u32);
     Picked {
-        indexes: t.indexes,
-        sum: t.all,
+        indexes: word(Mode1::INDEX_BITS, &best),
+        sum: sum(&best),
         p,
     }
 }

@@ -6,7 +6,7 @@ use native.Mathlib.Omega.{arith}
 use mathlib.Core.Path.{_≡_, refl, sym, ap, ap₂, _∙_}
 use mathlib.Core.List.{List, [], _∷_, _++_, map, List·Memᴰ, List·Memᴰ·head, List·Memᴰ·tail, List·Memᴰ·not-nil, Memᴰ·cast, map-append, append-nil, append-assoc}
 use lib.ListN.{length, getD, set, drop, length-map, List·getD-append}
-use lib.Seq.{ext-getD, set-at, drop-cons, drop-length}
+use lib.Seq.{ext-getD, getD-append-add, set-at, drop-cons, drop-length}
 use Rattle.lists.specs.Rows.{upFrom, written}
 
 -- k numbers
@@ -58,6 +58,17 @@ module _ {ℓ} {B : Type ℓ} (d : B) where
   -- what stands at place i of a function's row
   pub getD-each : (f : ℕ → B) (k i : ℕ) → i < k → getD (map f (upFrom 0 k)) i d ≡ f i
   getD-each f k i h = getD-map 0 f (upFrom 0 k) i (rw length-upFrom h) ∙ ap f (getD-upFrom k 0 i 0 h ∙ zero-add i)
+
+  -- and with another list after it
+  pub each-front : (f : ℕ → B) (k i : ℕ) (rest : List B) → i < k → getD (map f (upFrom 0 k) ++ rest) i d ≡ f i
+  each-front f k i rest h = List·getD-append (map f (upFrom 0 k)) rest d i (simp (length-map, length-upFrom) h) ∙ getD-each f k i h
+
+  -- that list past the row
+  pub each-past : (f : ℕ → B) (k i at : ℕ) (rest : List B) → at ≡ i + k → getD (map f (upFrom 0 k) ++ rest) at d ≡ getD rest i d
+  each-past f k i at rest e =
+      let l : length (map f (upFrom 0 k)) ≡ k = simp (length-map, length-upFrom) in
+      let n : at ≡ length (map f (upFrom 0 k)) + i = omega arith in
+      rw n (getD-append-add (map f (upFrom 0 k)) rest i d)
 
   same-from : (f g : ℕ → B) (k n : ℕ) → ((i : ℕ) → i < n + k → f i ≡ g i) → map f (upFrom n k) ≡ map g (upFrom n k)
   same-from f g zero n h = refl

@@ -1,5 +1,5 @@
 -- Laws of lists that a loop writes: a function of one, and two halves of one.
-use Prim.Native.Nat.{ℕ, zero, suc, _+_, _≤_, _<_}
+use Prim.Native.Nat.{ℕ, zero, suc, _+_, _*_, _≤_, _<_}
 use native.Mathlib.Nat.{zero-add, suc-add}
 use native.Mathlib.Omega.{arith}
 use mathlib.Core.Path.{_≡_, refl, ap, ap₂, _∙_}
@@ -28,18 +28,55 @@ set-append-right : {A : Type 0} (xs ys : List A) (i : ℕ) (a : A) → set (xs +
 set-append-right [] ys i a = rw zero-add
 set-append-right {A} (x ∷ xs) ys i a = rw suc-add (ap {B = List A} (λ l. x ∷ l) (set-append-right xs ys i a))
 
--- one more place of both halves of a list
-module _ (f g : ℕ → ℕ) (n k : ℕ) (h : k < n) where
-  pub halves-next : set (set (written f k (replicate n 0) ++ written g k (replicate n 0)) k (f k)) (k + n) (g k)
-      ≡ written f (k + 1) (replicate n 0) ++ written g (k + 1) (replicate n 0)
-  halves-next =
+-- one more place of each part of a list, of n places each
+module _ (n k : ℕ) (h : k < n) where
+  -- the parts of a list, and the places that are written in them
+  abbrev part : (ℕ → ℕ) → ℕ → List ℕ
+  part f j = written f j (replicate n 0)
+
+  part-length : (f : ℕ → ℕ) (j : ℕ) → j ≤ n → length (part f j) ≡ n
+  part-length f j l =
       let z : length (replicate {A = ℕ} n 0) ≡ n = length-replicate n 0 in
-      let l : length (written f k (replicate n 0)) ≡ n = length-written f k (replicate n 0) (omega arith) ∙ z in
-      let m : length (written f (k + 1) (replicate n 0)) ≡ n = length-written f (k + 1) (replicate n 0) (omega arith) ∙ z in
-      let e : k + n ≡ length (written f (k + 1) (replicate n 0)) + k = omega arith in
-      rw (set-append-left (written f k (replicate n 0)) (written g k (replicate n 0)) k (f k) (omega arith), written-next 0 f (replicate n 0) k (omega arith), e)
-      (set-append-right (written f (k + 1) (replicate n 0)) (written g k (replicate n 0)) k (g k)
-      ∙ ap (λ (ys : List ℕ). written f (k + 1) (replicate n 0) ++ ys) (written-next 0 g (replicate n 0) k (omega arith)))
+      length-written f j (replicate n 0) (omega arith) ∙ z
+
+  -- of the first part
+  first-next : (f : ℕ → ℕ) (rest : List ℕ) → set (part f k ++ rest) k (f k) ≡ part f (k + 1) ++ rest
+  first-next f rest =
+      let z : length (replicate {A = ℕ} n 0) ≡ n = length-replicate n 0 in
+      rw (set-append-left (part f k) rest k (f k) (omega (arith, part-length f k (omega arith))), written-next 0 f (replicate n 0) k (omega arith))
+
+  -- of the parts after the first
+  rest-next : (f : ℕ → ℕ) (rest : List ℕ) (at i v : ℕ) → at ≡ i + n → set (part f (k + 1) ++ rest) at v ≡ part f (k + 1) ++ set rest i v
+  rest-next f rest at i v e =
+      let l : at ≡ length (part f (k + 1)) + i = omega (arith, part-length f (k + 1) (omega arith)) in
+      rw l (set-append-right (part f (k + 1)) rest i v)
+
+  -- of two
+  pub halves-next : (f g : ℕ → ℕ) → set (set (part f k ++ part g k) k (f k)) (k + n) (g k) ≡ part f (k + 1) ++ part g (k + 1)
+  halves-next f g =
+      let z : length (replicate {A = ℕ} n 0) ≡ n = length-replicate n 0 in
+      rw (first-next f (part g k), rest-next f (part g k) (k + n) k (g k) refl, written-next 0 g (replicate n 0) k (omega arith))
+
+  -- of four
+  pub quarters-next : (f g p q : ℕ → ℕ) →
+      set (set (set (set (part f k ++ (part g k ++ (part p k ++ part q k))) k (f k)) (k + n) (g k)) (k + n * 2) (p k)) (k + n * 3) (q k)
+      ≡ part f (k + 1) ++ (part g (k + 1) ++ (part p (k + 1) ++ part q (k + 1)))
+  quarters-next f g p q =
+      let z : length (replicate {A = ℕ} n 0) ≡ n = length-replicate n 0 in
+      let two : k + n * 2 ≡ k + n + n = omega arith in
+      let three : k + n * 3 ≡ k + n * 2 + n = omega arith in
+      rw (
+        first-next f (part g k ++ (part p k ++ part q k)),
+        rest-next f (part g k ++ (part p k ++ part q k)) (k + n) k (g k) refl,
+        first-next g (part p k ++ part q k),
+        rest-next f (part g (k + 1) ++ (part p k ++ part q k)) (k + n * 2) (k + n) (p k) two,
+        rest-next g (part p k ++ part q k) (k + n) k (p k) refl,
+        first-next p (part q k),
+        rest-next f (part g (k + 1) ++ (part p (k + 1) ++ part q k)) (k + n * 3) (k + n * 2) (q k) three,
+        rest-next g (part p (k + 1) ++ part q k) (k + n * 2) (k + n) (q k) two,
+        rest-next p (part q k) (k + n) k (q k) refl,
+        written-next 0 q (replicate n 0) k (omega arith),
+      )
 
 -- several places more
 module _ (f : ℕ → ℕ) (xs : List ℕ) (n : ℕ) where
@@ -53,12 +90,3 @@ module _ (f : ℕ → ℕ) (xs : List ℕ) (n : ℕ) where
       set (set (set (set (written f n xs) n a) (n + 1) b) (n + 2) c) (n + 3) d ≡ written f (n + 4) xs
   written-four a b c d h ea eb ec ed =
       rw (ea, written-next 0 f xs n (omega arith), place 1 b (omega arith) eb, place 2 c (omega arith) ec) (place 3 d h ed)
-
--- eight of them
-pub written-eight : (f : ℕ → ℕ) (xs : List ℕ) (n a b c d p q r s : ℕ) → n + 7 < length xs →
-    a ≡ f n → b ≡ f (n + 1) → c ≡ f (n + 2) → d ≡ f (n + 3) → p ≡ f (n + 4) → q ≡ f (n + 5) → r ≡ f (n + 6) → s ≡ f (n + 7) →
-    set (set (set (set (set (set (set (set (written f n xs) n a) (n + 1) b) (n + 2) c) (n + 3) d) (n + 4) p) (n + 5) q) (n + 6) r) (n + 7) s
-    ≡ written f (n + 8) xs
-written-eight f xs n a b c d p q r s h ea eb ec ed ep eq er es =
-    rw (written-four f xs n a b c d (omega arith) ea eb ec ed, place f xs n 4 p (omega arith) ep, place f xs n 5 q (omega arith) eq, place f xs n 6 r (omega arith) er)
-    (place f xs n 7 s h es)

@@ -4,6 +4,7 @@ pub use bptc::Rgb;
 
 pub mod colour;
 pub mod palettes;
+pub mod pixels;
 
 // Mode 1: one p-bit for each subset.
 pub struct Mode1;

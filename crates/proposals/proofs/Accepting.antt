@@ -18,11 +18,11 @@ use Rattle.chooser.specs.declared.Chooser.{Chooser}
 use Rattle.chooser.specs.OfferCall.{offerRefusal, offerOf}
 use Rattle.chooser.specs.Calls.{accepted}
 use Rattle.chooser.proofs.Calls.{offer-number}
-use Rattle.proposals.specs.declared.corners.Bounds.{Bounds}
+use Rattle.corners.specs.declared.Bounds.{Bounds}
 use Rattle.proposals.specs.Offers.{offers}
-use Rattle.proposals.specs.Corners.{cornersOf}
+use Rattle.corners.specs.Corners.{cornersOf}
 use Rattle.proposals.specs.BuiltIn.{stepOf, storedIn, between, proposalOf, bothOf, proposalsTo, proposalsOf}
-use Rattle.proposals.proofs.Boxes.{ShownBounds, corners-shown}
+use Rattle.corners.proofs.Boxing.{ShownBounds, corners-shown}
 
 -- a candidate that is accepted, with four endpoints as its type has them
 pub record Sound (c : Candidate) : Type 0 where

@@ -1,5 +1,3 @@
-pub mod Boxes
-pub mod Faces
 pub mod Offering
 pub mod Accepting
 pub mod Groups

@@ -26,7 +26,7 @@ after-more : (ch : Chooser) (cs ds : List Candidate) → after ch (offers (cs ++
 after-more ch cs ds = rw (map-append offer cs ds) (after-calls (offers cs) (offers ds) ch)
 
 -- offers leave the pixels as they were
-after-pixels : (cs : List Candidate) (ch : Chooser) → after ch (offers cs) .pixels ≡ ch .pixels
+pub after-pixels : (cs : List Candidate) (ch : Chooser) → after ch (offers cs) .pixels ≡ ch .pixels
 unfolding after
 after-pixels [] ch = refl
 after-pixels (c ∷ cs) ch =

@@ -8,8 +8,8 @@ use Rattle.bptc.specs.declared.Rgb.{Rgb}
 use Rattle.bptc.specs.Colour.{each}
 use Rattle.bptc_block.specs.declared.Candidate.{Candidate}
 use Rattle.bptc_block.specs.declared.PBits.the-variants.{Free}
-use Rattle.proposals.specs.declared.corners.Bounds.{Bounds}
-use Rattle.proposals.specs.Corners.{cornersOf}
+use Rattle.corners.specs.declared.Bounds.{Bounds}
+use Rattle.corners.specs.Corners.{cornersOf}
 
 -- how many shown levels of a channel one stored level stands for: a stored channel has 6 bits in mode 1 and 7 in mode 3
 abbrev pub stepOf : ℕ → ℕ

@@ -1,5 +1,4 @@
 pub mod Offers
 pub mod Records
-pub mod Corners
 pub mod BuiltIn
 pub mod Baking

@@ -4,13 +4,17 @@ ghost use Prim.Native.Nat.{_<_, _/_};
 ghost use Rattle.bptc.specs.Colour.{each};
 ghost use Rattle.chooser.specs.Calls.{after};
 ghost use Rattle.proposals.specs.Offers.{offers};
+ghost use Rattle.corners.specs.Corners.{planesOf};
 ghost use Rattle.proposals.specs.BuiltIn.{stepOf, between, bothOf, proposalsOf};
-use crate::corners::Bounds;
-use crate::corners::corners;
 use block::Candidate;
 use block::PBits;
 use block::Rgb;
 use chooser::Chooser;
+use corners::Bounds;
+use corners::Planes;
+use corners::boxes_of;
+use corners::planes_of;
+use partitions::mask;
 
 // How many shown levels of a channel one stored level stands for.
 fn step(mode: u8) -> u8
@@ -49,15 +53,14 @@ fn proposal(mode: u8, partition: u8, first: Bounds, second: Bounds) -> Candidate
     }
 }
 
-// Offers a partition's proposals, mode 1 and then mode 3. Requires a partition of the table.
-fn offer_both(ch: Chooser, partition: u8) -> Chooser
-    requires { ⌜ partition < 64 ⌝ }
+// Offers a partition's proposals, mode 1 and then mode 3. Requires the planes of the chooser's pixels.
+fn offer_both(ch: Chooser, planes: Planes, partition: u8) -> Chooser
+    requires { ⌜ planes ≡ planesOf (ch .pixels) ⌝ }
     ensures { λ r. ⌜ r ≡ after ch (offers (bothOf (ch .pixels) partition)) ⌝ }
 {
-    let pixels = ch.pixels;
-    let place = partition as usize;
-    let first = corners(&pixels, place, 0);
-    let second = corners(&pixels, place, 1);
+    let around = boxes_of(planes, mask(partition as usize));
+    let first = around.first;
+    let second = around.second;
     let offered = ch.offer(proposal(1, partition, first, second));
     let held = offered.chooser;
     let last = held.offer(proposal(3, partition, first, second));
@@ -68,10 +71,12 @@ fn offer_both(ch: Chooser, partition: u8) -> Chooser
 pub fn built_in(ch: Chooser) -> Chooser
     ensures { λ r. ⌜ r ≡ after ch (offers (proposalsOf (ch .pixels))) ⌝ }
 {
+    let pixels = ch.pixels;
+    let apart = planes_of(&pixels);
     let mut held = ch;
     let mut partition: u8 = 0;
     while partition < 64 {
-        held = offer_both(held, partition);
+        held = offer_both(held, apart, partition);
         partition += 1;
     }
     held

@@ -12,7 +12,6 @@ use chooser::Chooser;
 
 pub mod baking;
 pub mod built_in;
-pub mod corners;
 pub mod records;
 
 // Offers the candidates of records in order, and writes the refusal of each. Requires sixteen bytes of records for each refusal.

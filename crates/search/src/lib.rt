@@ -1,14 +1,4 @@
-// The search for the nearest colours of a block's pixels at given p-bits, each in the palette of its own subset.
-mod indexes;
-pub mod keys;
-pub mod mode1;
-pub mod mode3;
-pub mod numbers;
-pub mod pick;
-
-// What a search finds: the indices as one number with the first lowest, and the raised distances of all pixels and of those of subset 1.
-pub struct Found {
-    pub indexes: u64,
-    pub all: u32,
-    pub second: u32,
-}
+// The search: the keys of each of sixteen pixels with the colours of its own subset's row, in four columns.
+pub mod eight;
+pub mod four;
+pub mod least;

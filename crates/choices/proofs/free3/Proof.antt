@@ -11,9 +11,9 @@ use Rattle.bptc.specs.Partition.{maskOf}
 use Rattle.bptc.specs.Colour.{coloursOf}
 use Rattle.bptc_block.proofs.Modes.{lawful}
 use Rattle.lists.proofs.Rows.{getD-each, each-same}
-use Rattle.search.specs.Found.{indexesIn, raisedIn, overSecond}
-use Rattle.choices.specs.Columns.{columnBits}
-use Rattle.search.proofs.KeySums.{small-each}
+use Rattle.closest.specs.Found.{indexesIn, raisedIn, overSecond}
+use Rattle.choices.specs.Choices.{columnBits}
+use Rattle.keys.proofs.KeySums.{small-each}
 use Rattle.bptc.proofs.PartitionRule.{entry-ones}
 use Rattle.choices.proofs.Subsets.{over-all}
 use Rattle.choices.proofs.Picking.{all-small}
@@ -21,8 +21,8 @@ use Rattle.choices.proofs.ChoicePicking.{four-left, word-small, columnS
 use Rattle.choices.proofs.free3.Statement.{statement}
 use Rattle.choices.proofs.free3.Tie as tie
 
--- after the columns
-module _ (c : tie.After-columns) where
+-- after the four choices
+module _ (c : tie.After-choices) where
   -- the entry
   abbrev a : tie.Start
   a = c .before .before .before
@@ -31,40 +31,40 @@ module _ (c : tie.After-columns) where
   abbrev sumOf : ℕ → ℕ → ℕ
   sumOf = columnSum (a .args .partition) (a .args .ends) (coloursOf (a .args .px .now))
 
-  all-are : c .columns .result .all ≡ map (λ (k : ℕ). sumOf 0 k + sumOf 1 k) (upFrom 0 4)
+  all-are : c .choices .result .all ≡ map (λ (k : ℕ). sumOf 0 k + sumOf 1 k) (upFrom 0 4)
   all-are =
-      c .columns .ensures .0
+      c .choices .ensures .0
       ∙ ap (λ (mask : ℕ). map (λ (k : ℕ). overPixels (raisedIn mode3 (a .args .ends) (columnBits k) mask (coloursOf (a .args .px .now)))) (upFrom 0 4)) (c .before .mask .ensures)
       ∙ each-same 0 _ _ 4 (λ k h. over-all mode3 (a .args .partition) (a .args .ends) (coloursOf (a .args .px .now)) (columnBits k))
 
-  ones-are : c .columns .result .second ≡ map (sumOf 1) (upFrom 0 4)
+  ones-are : c .choices .result .second ≡ map (sumOf 1) (upFrom 0 4)
   ones-are =
-      c .columns .ensures .1 .0
+      c .choices .ensures .1 .0
       ∙ ap (λ (mask : ℕ). map (λ (k : ℕ). overSecond mask (raisedIn mode3 (a .args .ends) (columnBits k) mask (coloursOf (a .args .px .now)))) (upFrom 0 4)) (c .before .mask .ensures)
 
-  words-are : c .columns .result .words ≡ map (λ (k : ℕ). indexesIn mode3 (a .args .ends) (columnBits k) (maskOf (a .args .partition)) (coloursOf (a .args .px .now))) (upFrom 0 4)
+  words-are : c .choices .result .words ≡ map (λ (k : ℕ). indexesIn mode3 (a .args .ends) (columnBits k) (maskOf (a .args .partition)) (coloursOf (a .args .px .now))) (upFrom 0 4)
   words-are =
-      c .columns .ensures .1 .1
+      c .choices .ensures .1 .1
       ∙ ap (λ (mask : ℕ). map (λ (k : ℕ). indexesIn mode3 (a .args .ends) (columnBits k) mask (coloursOf (a .args .px .now))) (upFrom 0 4)) (c .before .mask .ensures)
 
   zeros-are :
-      let x = c .columns .result .all in
-      let y = c .columns .result .second in
+      let x = c .choices .result .all in
+      let y = c .choices .result .second in
       (getD x 0 0 - getD y 0 0) ∷ ((getD x 1 0 - getD y 1 0) ∷ ((getD x 2 0 - getD y 2 0) ∷ ((getD x 3 0 - getD y 3 0) ∷ []))) ≡ map (sumOf 0) (upFrom 0 4)
   zeros-are = four-left (sumOf 0) (sumOf 1) _ _ all-are ones-are
 
   -- subset 1 has no more than all
-  less : (k : ℕ) → k < 4 → getD (c .columns .result .second) k 0 ≤ getD (c .columns .result .all) k 0
+  less : (k : ℕ) → k < 4 → getD (c .choices .result .second) k 0 ≤ getD (c .choices .result .all) k 0
   less k h = rw (ones-are, all-are, getD-each 0 (sumOf 1) 4 k h, getD-each 0 (λ (k : ℕ). sumOf 0 k + sumOf 1 k) 4 k h) (omega arith)
 
   -- a word has no more bits than sixteen indices
-  words-small : (k : ℕ) → getD (c .columns .result .words) k 0 < 2 ^ 32
+  words-small : (k : ℕ) → getD (c .choices .result .words) k 0 < 2 ^ 32
   words-small k = rw words-are (small-each _ 4 (2 ^ 32) (omega arith) (λ q h. word-small (a .args .ends) (columnBits q) (maskOf (a .args .partition)) (coloursOf (a .args .px .now))) k)
 
   -- the sums of both subsets fit
   sums-small : (i j : ℕ) → i < 4 → j < 4 →
-      let x = c .columns .result .all in
-      let y = c .columns .result .second in
+      let x = c .choices .result .all in
+      let y = c .choices .result .second in
       getD ((getD x 0 0 - getD y 0 0) ∷ ((getD x 1 0 - getD y 1 0) ∷ ((getD x 2 0 - getD y 2 0) ∷ ((getD x 3 0 - getD y 3 0) ∷ [])))) i 0 + getD y j 0 < 2 ^ 32
   sums-small i j h l =
       let most : (k : ℕ) → sumOf 0 k + sumOf 1 k ≤ 6242400 =
@@ -74,11 +74,11 @@ module _ (c : tie.After-columns) where
 mask-requires : tie.Need-mask-requires
 mask-requires c κs = search needs
 
-cast-columns : tie.Need-cast-columns
-cast-columns c = search needs
+cast-choices : tie.Need-cast-choices
+cast-choices c = search needs
 
-columns-requires : tie.Need-columns-requires
-columns-requires c κs = search needs
+choices-requires : tie.Need-choices-requires
+choices-requires c κs = search needs
 
 array-read-t15 : tie.Need-array-read-t15
 array-read-t15 c = search needs
@@ -185,8 +185,8 @@ free3-spec =
     tie.close
     (tie.spec
     mask-requires
-    cast-columns
-    columns-requires
+    cast-choices
+    choices-requires
     array-read-t15
     array-read-t20
     sub-t21

@@ -8,8 +8,8 @@ use Rattle.bptc.specs.Colour.{coloursOf}
 use Rattle.bptc.specs.Closest.{closestIn}
 use Rattle.bptc_block.specs.Finish.{bitsIn}
 use Rattle.bptc_block.proofs.Modes.{lawful}
-use Rattle.search.specs.declared.pick.Picked.{Picked}
-use Rattle.search.specs.Pick.{raisedAll, pickedFor}
+use Rattle.closest.specs.declared.pick.Picked.{Picked}
+use Rattle.closest.specs.Pick.{raisedAll, pickedFor}
 use Rattle.finishing.specs.Indices.{nearestFor}
 use Rattle.finishing.proofs.Kept.{sum-small}
 use Rattle.finishing.proofs.nearest.Statement.{statement}

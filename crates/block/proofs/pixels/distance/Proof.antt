@@ -20,8 +20,8 @@ abbrev μ-loop : tie.MeasureT-loop
 loop-holds : tie.Need-loop-holds Inv-loop μ-loop
 loop-holds c = (search needs, refl, search needs)
 
-pixel-requires : tie.Need-pixel-requires Inv-loop μ-loop
-pixel-requires c κs = search needs
+pixel-at-requires : tie.Need-pixel-at-requires Inv-loop μ-loop
+pixel-at-requires c κs = search needs
 
 mul-dist-sq : tie.Need-mul-dist-sq Inv-loop μ-loop
 mul-dist-sq c = search needs
@@ -46,7 +46,7 @@ loop-again c =
     let a = c .before .before .before .before .before .before .args in
     let at = c .before .before .before .before .loop in
     let apart : ℕ → ℕ = λ (i : ℕ). distSq (getD (coloursOf (a .pixels .now)) i black) (getD (a .t1) i black) in
-    let own : c .dist-sq .result ≡ apart (at .i) = rw (← c .before .before .pixel .ensures) (c .dist-sq .ensures .0) in
+    let own : c .dist-sq .result ≡ apart (at .i) = rw (← c .before .before .pixel-at .ensures) (c .dist-sq .ensures .0) in
     (search needs, ap₂ _+_ (at .inv .1) own ∙ sym (sumTo-suc apart (at .i)), search needs)
 
 returns : tie.Need-returns Inv-loop μ-loop
@@ -62,7 +62,7 @@ distance-spec =
     Inv-loop
     μ-loop
     loop-holds
-    pixel-requires
+    pixel-at-requires
     mul-dist-sq
     array-copy-out-dist-sq
     dist-sq-requires

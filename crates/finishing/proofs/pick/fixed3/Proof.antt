@@ -7,9 +7,9 @@ use Rattle.bptc.specs.Mode.{mode3}
 use Rattle.bptc.specs.Colour.{coloursOf}
 use Rattle.bptc_block.specs.Finish.{joinedBits}
 use Rattle.bptc_block.proofs.Modes.{lawful}
-use Rattle.search.specs.declared.Found.{Found}
-use Rattle.search.specs.declared.pick.Picked.{Picked}
-use Rattle.search.specs.Found.{foundAt}
+use Rattle.closest.specs.declared.Found.{Found}
+use Rattle.closest.specs.declared.pick.Picked.{Picked}
+use Rattle.closest.specs.Found.{foundAt}
 use Rattle.finishing.proofs.Kept.{fixed-picked}
 use Rattle.finishing.proofs.pick.fixed3.Statement.{statement}
 use Rattle.finishing.proofs.pick.fixed3.Tie as tie

@@ -8,8 +8,8 @@ use Rattle.bptc.specs.Partition.{maskOf}
 use Rattle.bptc.specs.Colour.{coloursOf}
 use Rattle.bptc.proofs.PartitionRule.{entry-ones}
 use Rattle.bptc_block.proofs.Modes.{lawful}
-use Rattle.search.specs.declared.Found.{Found}
-use Rattle.search.specs.Found.{foundAt}
+use Rattle.closest.specs.declared.Found.{Found}
+use Rattle.closest.specs.Found.{foundAt}
 use Rattle.choices.proofs.Picking.{all-small}
 use Rattle.finishing.proofs.Kept.{sums1, free1-picked}
 use Rattle.finishing.proofs.pick.free1.Statement.{statement}

@@ -1,20 +1,17 @@
 -- `proposals::built_in::offer_both` meets its contract.
 use borrow.Author.Needs.{needs}
+use mathlib.Core.Path.{_≡_, ap₂, _∙_}
 use Rattle.chooser.specs.Calls.{after}
+use Rattle.corners.specs.Corners.{cornersOf, boxesOf}
+use Rattle.corners.proofs.Boxing.{boxes-corners}
 use Rattle.proposals.proofs.built_in.offer_both.Statement.{statement}
 use Rattle.proposals.proofs.built_in.offer_both.Tie as tie
 
-slice-aggregate-corners : tie.Need-slice-aggregate-corners
-slice-aggregate-corners c = search needs
+mask-requires : tie.Need-mask-requires
+mask-requires c κs = search needs
 
-corners-requires : tie.Need-corners-requires
-corners-requires c κs = search needs
-
-slice-aggregate-corners-2 : tie.Need-slice-aggregate-corners-2
-slice-aggregate-corners-2 c = search needs
-
-corners-requires-2 : tie.Need-corners-requires-2
-corners-requires-2 c κs = search needs
+boxes-of-requires : tie.Need-boxes-of-requires
+boxes-of-requires c κs = search needs
 
 proposal-requires : tie.Need-proposal-requires
 proposal-requires c κs = search needs
@@ -31,23 +28,18 @@ offer-requires-2 c κs = search needs
 returns : tie.Need-returns
 unfolding after
 returns c =
-    rw (
-      c .before .offer2 .ensures,
-      c .before .before .proposal2 .ensures,
-      c .before .before .before .before .offer .ensures,
-      c .before .before .before .before .before .proposal .ensures,
-      c .before .before .before .before .before .before .corners2 .ensures,
-      c .before .before .before .before .before .before .before .before .corners .ensures,
-    )
+    let a = c .before .before .before .before .before .before .before .before .before .before in
+    let px = a .args .ch .pixels in
+    let around : c .before .before .before .before .before .before .before .before .boxes-of .result ≡ record { first = cornersOf px (a .args .partition) 0; second = cornersOf px (a .args .partition) 1 } =
+    c .before .before .before .before .before .before .before .before .boxes-of .ensures ∙ ap₂ boxesOf (a .pre) (c .before .before .before .before .before .before .before .before .before .mask .ensures) ∙ boxes-corners px (a .args .partition) in
+    rw (c .before .offer2 .ensures, c .before .before .proposal2 .ensures, c .before .before .before .before .offer .ensures, c .before .before .before .before .before .proposal .ensures, around)
 
 pub offer-both-spec : {M : Type 1} → statement M
 offer-both-spec =
     tie.close
     (tie.spec
-    slice-aggregate-corners
-    corners-requires
-    slice-aggregate-corners-2
-    corners-requires-2
+    mask-requires
+    boxes-of-requires
     proposal-requires
     offer-requires
     proposal-requires-2

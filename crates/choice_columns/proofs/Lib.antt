@@ -1,0 +1,2 @@
+pub mod FourSums
+pub mod FourColumns

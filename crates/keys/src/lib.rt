@@ -1,0 +1,2 @@
+// Keys, by which the search compares colours.
+pub mod key;
