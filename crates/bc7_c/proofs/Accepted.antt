@@ -31,7 +31,7 @@ known-byte : (n : ℕ) → Known n → n < 256
 known-byte n (inl e) = omega arith
 known-byte n (inr e) = omega arith
 
--- the greatest p_bits of a mode are a byte
+-- the greatest p-bits of a mode are a byte
 small_bits : (n : ℕ) → 2 ^ (mode_numbered n).p_bits - 1 < 255
 small_bits n = pick_elim (λ (m : Mode). 2 ^ m.p_bits - 1 < 255) (eqb n 1) (λ t. lit< tt) (λ t. lit< tt)
 
@@ -40,7 +40,7 @@ end_pixel : (e : ℕ) → (end_of e).b < 256 → pixel_of e ≡ end_of e
 unfolding end_of pixel_of
 end_pixel e h = rgb_eq refl refl (omega arith)
 
--- what is known of a candidate's numbers that they accept: mode, partition and fixed p_bits are bytes, and the endpoints words
+-- what is known of a candidate's numbers that they accept: mode, partition and fixed p-bits are bytes, and the endpoints words
 pub record Bytewise (mode partition e0 e1 e2 e3 p free : ℕ) : Type 0 where
   pub mode-byte : mode < 256
   pub partition-byte : partition < 256
@@ -75,7 +75,7 @@ module _ (mode partition e0 e1 e2 e3 p free : ℕ) (fit : Good (candidate_of mod
 
 -- what is known of the numbers that `pack` accepts
 pub record Accepted (mode partition e0 e1 e2 e3 p indices : ℕ) : Type 0 where
-  -- mode, partition and p_bits are bytes
+  -- mode, partition and p-bits are bytes
   pub mode-byte : mode < 256
   pub partition-byte : partition < 256
   pub p-byte : p < 256

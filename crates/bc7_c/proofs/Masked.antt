@@ -118,7 +118,7 @@ zeros_pass : (mode : ℕ) → check_indices mode (indices_of 0) 0 ≡ 0
 unfolding split
 zeros_pass mode = rw (le-leb 0 (largest (mode_numbered mode)) (omega arith))
 
--- checks 3 to 6 of a candidate: free p_bits pass as 0 does
+-- checks 3 to 6 of a candidate: free p-bits pass as 0 does
 pub unindexed : (mode partition e0 e1 e2 e3 p free : ℕ) →
     check_candidate (fixed_at mode (packed_of partition e0 e1 e2 e3 (pick (eqb free 0) p 0) 0)) (check_indices mode (indices_of 0) 0)
     ≡ check_candidate (candidate_of mode partition e0 e1 e2 e3 p free) 0

@@ -18,7 +18,7 @@ over mask [] = 0
 over mask (n ∷ []) = bit_and n mask
 over mask (n ∷ (k ∷ ns)) = bit_or (bit_and n mask) (over mask (k ∷ ns))
 
--- 4 to 7, by the masks of the channels and of the indices and the greatest p_bits
+-- 4 to 7, by the masks of the channels and of the indices and the greatest p-bits
 abbrev pub check_masked : ℕ → ℕ → ℕ → ℕ → List ℕ → ℕ → ℕ → ℕ
 check_masked channels top index partition ends p indices =
     unless (leb partition 63) 4

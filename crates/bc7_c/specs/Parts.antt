@@ -13,7 +13,7 @@ chooser_bytes ch = ch.pixels ++ (ch.block ++ bytes 4 ch.error)
 unfoldable pub chooser_in : List ℕ → Chooser
 chooser_in part = record { pixels = take 48 part; block = take 16 (drop 48 part); error = number (drop 64 part) }
 
--- the fields of a reading before its indices: mode, partition, four endpoints and p_bits
+-- the fields of a reading before its indices: mode, partition, four endpoints and p-bits
 unfoldable pub head_bytes : Reading → List ℕ
 head_bytes r = r.mode ∷ (r.partition ∷ (bytes_of r.ends ++ (r.p ∷ [])))
 

@@ -14,7 +14,7 @@ pub record Worked : Type 0 where
   pub indices :
       indices_of 0xfedcba9876543210
       ≡ 0 ∷ 1 ∷ 2 ∷ 3 ∷ 4 ∷ 5 ∷ 6 ∷ 7 ∷ 8 ∷ 9 ∷ 10 ∷ 11 ∷ 12 ∷ 13 ∷ 14 ∷ 15 ∷ []
-  -- a candidate with p_bits that are fixed
+  -- a candidate with p-bits that are fixed
   pub fixed :
       candidate_of 3 9 0x030201 0x060504 0x090807 0x0c0b0a 5 0
       ≡ record {
@@ -34,7 +34,7 @@ pub record Worked : Type 0 where
   pub chooser :
       chooser_bytes (record { pixels = replicate 48 7; block = replicate 16 8; error = 0x04030201 })
       ≡ replicate 48 7 ++ (replicate 16 8 ++ (1 ∷ 2 ∷ 3 ∷ 4 ∷ []))
-  -- the 31 bytes of fields: mode, partition, red, green and blue of four endpoints, p_bits, sixteen indices
+  -- the 31 bytes of fields: mode, partition, red, green and blue of four endpoints, p-bits, sixteen indices
   pub fields :
       field_bytes
       (record {

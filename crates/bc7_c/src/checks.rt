@@ -15,7 +15,7 @@ fn over(e0: u32, e1: u32, e2: u32, e3: u32, mask: u32) -> u32
     (e0 & mask) | ((e1 & mask) | ((e2 & mask) | (e3 & mask)))
 }
 
-// 4 to 7: the partition, the endpoints, the p_bits and the indices, by the masks and the greatest p_bits of a mode.
+// 4 to 7: the partition, the endpoints, the p-bits and the indices, by the masks and the greatest p-bits of a mode.
 fn masked_refusal(
     partition: u32,
     e0: u32,
@@ -94,7 +94,7 @@ fn fixed_bits(p: u32, free: u32) -> u32
     if free == 0 { p } else { 0 }
 }
 
-// 3 to 6: free p_bits pass as 0 does, and so do sixteen indices 0.
+// 3 to 6: free p-bits pass as 0 does, and so do sixteen indices 0.
 pub(crate) fn candidate_refusal(
     mode: u32,
     partition: u32,

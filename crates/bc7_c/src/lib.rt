@@ -1,4 +1,6 @@
 // The seven calls for C, on numbers and byte parts; include/bc7.h has their prototypes.
+#![tactic(auto)]
+
 ghost use Rattle.std.specs.Prelude.{◌≡◌};
 ghost use Rattle.bptc_block.specs.PackCall.{pack_of, pack_into};
 ghost use Rattle.bptc_block.specs.FinishCall.{finish_into};
@@ -61,7 +63,7 @@ pub extern "C" fn bc7_pack(
     0
 }
 
-// The call `finish`: p_bits are free where the last number is not 0. Gives the refusal above the error.
+// The call `finish`: p-bits are free where the last number is not 0. Gives the refusal above the error.
 #[unsafe(no_mangle)]
 pub extern "C" fn bc7_finish(
     pixels: &[u8],

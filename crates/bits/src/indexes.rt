@@ -10,14 +10,14 @@ ghost use Rattle.bptc_rust.specs.Subset2Map.{PARTITION-SET-2};
 use partitions::{entry2, entry3};
 
 // Indexes, and whether those of a subset were flipped.
-#[derive(Drop)]
+#[derive(Clone, Copy)]
 pub(crate) struct Ensured {
     pub indexes: u64,
     pub swap: bool,
 }
 
 // The indexes without the two anchors' top bits, and whether each subset is swapped.
-#[derive(Drop)]
+#[derive(Clone, Copy)]
 pub(crate) struct CompressedIndexList {
     pub indexes: u64,
     pub swap0: bool,

@@ -1,4 +1,6 @@
 // The 128 bits of a block in modes 1 and 3: fields written by bit place.
+#![tactic(auto)]
+
 pub use bptc::Rgb;
 pub use bptc_block::{Fields, Words};
 

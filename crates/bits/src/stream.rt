@@ -8,7 +8,7 @@ ghost use Rattle.bptc_block.specs.Fields.{channel_values, front_widths, front_va
 use bptc::Rgb;
 
 // A number of 128 bits in two halves, and how many of its bits are written.
-#[derive(Drop)]
+#[derive(Clone, Copy)]
 pub(crate) struct BitStream {
     pub low: u64,
     pub high: u64,
@@ -107,7 +107,7 @@ impl BitStream {
     }
 }
 
-// The fields of a block by a mode's number and widths: mode, partition, endpoints, p_bits and indexes.
+// The fields of a block by a mode's number and widths: mode, partition, endpoints, p-bits and indexes.
 pub(crate) fn write_fields(
     number: u32,
     bits: u32,

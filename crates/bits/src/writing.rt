@@ -40,7 +40,7 @@ fn swapped(ends: [u32; 4], swap0: bool, swap1: bool) -> [Rgb; 4]
     ]
 }
 
-// Two p_bits, exchanged where their endpoints are swapped.
+// Two p-bits, exchanged where their endpoints are swapped.
 fn turned_bits(swap: bool, p: u8) -> u8
     requires { p < 4 }
     ensures { (result ≡ turned_bits swap p) × (result < 4) }
@@ -69,7 +69,7 @@ fn mode1(w: Words) -> BitStream
     )
 }
 
-// A block of mode 3, whose p_bits go with their endpoints. Requires the same.
+// A block of mode 3, whose p-bits go with their endpoints. Requires the same.
 fn mode3(w: Words) -> BitStream
     requires plain { Plain mode3 (word_fields mode3.index_bits w) }
     requires list { w.indexes < 2 ^ (16 * mode3.index_bits) }

@@ -22,7 +22,7 @@ fn in_range(ends: [Rgb; 4], top: u8) -> bool
     within(ends[0], top) && (within(ends[1], top) && (within(ends[2], top) && within(ends[3], top)))
 }
 
-// Free p_bits, or fixed ones that are at most the top.
+// Free p-bits, or fixed ones that are at most the top.
 fn p_in_range(p: PBits, top: u8) -> bool
     ensures { result ≡ p_in_range top p }
 {
@@ -32,7 +32,7 @@ fn p_in_range(p: PBits, top: u8) -> bool
     }
 }
 
-// 4 to 6: the partition, the endpoint channels and the p_bits, by the greatest that the mode has; then what the later checks give.
+// 4 to 6: the partition, the endpoint channels and the p-bits, by the greatest that the mode has; then what the later checks give.
 fn stored_refusal(partition: u8, ends: [Rgb; 4], p: PBits, channel: u8, bits: u8, rest: u8) -> u8
     ensures { result ≡ check_stored channel bits partition ends p rest }
 {

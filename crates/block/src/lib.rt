@@ -1,4 +1,6 @@
 // Packing, finishing, reading and measuring BC7 blocks of modes 1 and 3.
+#![tactic(auto)]
+
 ghost use Rattle.std.specs.Prelude.{◌≡◌};
 ghost use Rattle.bptc_block.specs.PackCall.{pack_of, pack_into};
 ghost use Rattle.bptc_block.specs.FinishCall.{finish_of, finish_into};
@@ -53,7 +55,7 @@ pub fn pack(
     0
 }
 
-// Finishes pixels with a candidate: the nearest index of every pixel, the first p_bits of least error where they are free, and the block
+// Finishes pixels with a candidate: the nearest index of every pixel, the first p-bits of least error where they are free, and the block
 // into the lent part. Gives the block's distance from the pixels.
 pub fn finish(pixels: &[u8], candidate: Candidate, block: &mut [u8]) -> Finished
     ensures answer { result ≡ finish_of pixels.now candidate block.old }

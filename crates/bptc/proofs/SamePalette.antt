@@ -38,7 +38,7 @@ module _ (m : Mode) (es fs : List Rgb) (p q s : ℕ) where
       ap₂ (λ (a b : Rgb). shade m a b (largest m - i)) e.0 e.1
       ∙ shade_mirror m shades (end_shown m fs q (2 * s)) (end_shown m fs q (2 * s + 1)) i h
 
-  -- so two endpoints that change places, with their p_bits, mirror the palette
+  -- so two endpoints that change places, with their p-bits, mirror the palette
   pub exchange_mirror : Shades m →
       get_or es (2 * s) black ≡ get_or fs (2 * s + 1) black → get_or es (2 * s + 1) black ≡ get_or fs (2 * s) black →
       p_bit m p (2 * s) ≡ p_bit m q (2 * s + 1) → p_bit m p (2 * s + 1) ≡ p_bit m q (2 * s) →

@@ -7,7 +7,7 @@ use mathlib.Core.List.{List, [], ◌∷◌, map}
 use lib.Arith.{sub-sub_self}
 use lib.ListN.{get_or, length, replicate}
 use Rattle.lists.specs.Rows.{up_from, written}
-use Rattle.lists.proofs.Rows.{get_d_map, get_or-each, written_at, written_same}
+use Rattle.lists.proofs.Rows.{get_or-map, get_or-each, written_at, written_same}
 use Rattle.lists.proofs.Writing.{length-written}
 use Rattle.bptc.specs.declared.Rgb.{Rgb}
 use Rattle.bptc.specs.declared.Colour.{Colour}
@@ -122,8 +122,8 @@ module _ (m : Mode) (few : largest m < 8) (ends : List Rgb) (p s j : ℕ) (two :
   pub word-at : word_at (coloured (palettes m ends p)) s j ≡ pixel_word (palette_at m ends p s j)
   unfolding coloured
   word-at =
-      ap (λ (row : List Colour). (get_or row j (record { 0 = 0 })).0) (get_d_map [] [] (map colour) (palettes m ends p) s (rw two_rows two))
-      ∙ ap (λ (c : Colour). c.0) (get_d_map (record { 0 = 0 }) black colour (get_or (palettes m ends p) s []) j (omega (arith, row-length)))
+      ap (λ (row : List Colour). (get_or row j (record { 0 = 0 })).0) (get_or-map [] [] (map colour) (palettes m ends p) s (rw two_rows two))
+      ∙ ap (λ (c : Colour). c.0) (get_or-map (record { 0 = 0 }) black colour (get_or (palettes m ends p) s []) j (omega (arith, row-length)))
       ∙ ap pixel_word (palettes-at m ends p s j two index)
 
   -- which stands for it

@@ -18,7 +18,7 @@ pub record Closest : Type 0 where
 abbrev pub in_subset : ℕ → ℕ → (ℕ → ℕ) → ℕ → ℕ
 in_subset part s f i = pick (eqb (subset_of part i) s) (f i) 0
 
--- over the pixels of subset s of a partition, by its endpoints and p_bits
+-- over the pixels of subset s of a partition, by its endpoints and p-bits
 unfoldable pub closest_in : Mode → ℕ → List Rgb → ℕ → ℕ → List Rgb → Closest
 closest_in m part ends p s cs =
     record {

@@ -11,6 +11,6 @@ use Rattle.bptc.specs.Palette.{palette_at}
 unfoldable pub nearest_by : (Rgb → Rgb → ℕ) → (ℕ → Rgb) → ℕ → Rgb → ℕ
 nearest_by distance colour last c = first_least (λ (i : ℕ). distance c (colour i)) 0 (up_from 1 last)
 
--- closest_rgb at one pixel: in subset s at given p_bits
+-- closest_rgb at one pixel: in subset s at given p-bits
 unfoldable pub nearest : Mode → List Rgb → ℕ → ℕ → Rgb → ℕ
 nearest m ends p s c = nearest_by dist_sq (palette_at m ends p s) (largest m) c

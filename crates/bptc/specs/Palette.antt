@@ -20,7 +20,7 @@ blend w a b = ((256 - w) * a + w * b + 128) / 256
 unfoldable pub shade : Mode → Rgb → Rgb → ℕ → Rgb
 shade m a b i = both (between (weight m i)) a b
 
--- the colour at index i of subset s, at given endpoints and p_bits
+-- the colour at index i of subset s, at given endpoints and p-bits
 unfoldable pub palette_at : Mode → List Rgb → ℕ → ℕ → ℕ → Rgb
 palette_at m ends p s i = shade m (end_shown m ends p (2 * s)) (end_shown m ends p (2 * s + 1)) i
 

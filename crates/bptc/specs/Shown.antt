@@ -25,7 +25,7 @@ p_shown bits p e = widen (bits + 1) (2 * e + p)
 unfoldable pub shown : Mode → ℕ → ℕ → ℕ
 shown m p e = p_shown m.channel_bits p e
 
--- the colour that endpoint k shows, by the bits of a channel and the number of p_bits
+-- the colour that endpoint k shows, by the bits of a channel and the number of p-bits
 unfoldable pub end_shown_by : ℕ → ℕ → List Rgb → ℕ → ℕ → Rgb
 end_shown_by bits p_bits ends p k = each (p_shown bits (p_bit_by p_bits p k)) (get_or ends k black)
 

@@ -38,7 +38,7 @@ mode_in : (P : ℕ → Type 0) (limit : Mode → ℕ) (n : ℕ) → Known n → 
 mode_in P limit n (inl e) (first, third) = subst (λ (m : ℕ). P (limit (mode_numbered m))) (sym e) (first e)
 mode_in P limit n (inr e) (first, third) = subst (λ (m : ℕ). P (limit (mode_numbered m))) (sym e) (third e)
 
--- p_bits: the test and what it says
+-- p-bits: the test and what it says
 bits_in_lem : (w : ℕ) (ps : PBits) → p_in_range (2 ^ w - 1) ps ≡ true → BitsWithin (2 ^ w) ps
 bits_in_lem w Free t = tt
 bits_in_lem w (Fixed p) t = lt_of_le_ones w (leb-true p _ t)

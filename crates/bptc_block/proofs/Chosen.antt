@@ -41,11 +41,11 @@ use Rattle.bptc_block.proofs.Distance.{apart_small}
 use Rattle.bptc_block.proofs.SubsetLeast.{Alike, apart_in, closest-apart, subset-least}
 
 module _ (m : Mode) (law : Lawful m) (part : ℕ) (ends cs : List Rgb) where
-  -- p_bits that are the same in a subset
+  -- p-bits that are the same in a subset
   same_ends : (s p q : ℕ) → Same m s p q → SameEnds m ends ends p q s
   same_ends s p q e = (end_same m ends ends p q (2 * s) (2 * s) refl e.low, end_same m ends ends p q (2 * s + 1) (2 * s + 1) refl e.high)
 
-  -- the fields at p_bits
+  -- the fields at p-bits
   abbrev at : ℕ → Fields
   at p = fields_at m part ends cs p
 
@@ -53,7 +53,7 @@ module _ (m : Mode) (law : Lawful m) (part : ℕ) (ends cs : List Rgb) where
   abbrev error_in : ℕ → ℕ → ℕ
   error_in s p = (closest_in m part ends p s cs).error
 
-  -- the p_bits that a candidate may get
+  -- the p-bits that a candidate may get
   abbrev Choice : PBits → ℕ → Type 0
   Choice Free q = Memᴰ q (choices m)
   Choice (Fixed p) q = q ≡ p
@@ -72,13 +72,13 @@ module _ (m : Mode) (law : Lawful m) (part : ℕ) (ends cs : List Rgb) where
       rw (get_or-each 0 (λ (i : ℕ). nearest m ends p (subset_of part i) (get_or cs i black)) 16 i h)
       (omega (arith, nearest_small m ends p (subset_of part i) (get_or cs i black)))
 
-  -- a subset's error looks at its own p_bits alone
+  -- a subset's error looks at its own p-bits alone
   same-apart : (s p q : ℕ) → Same m s p q → apart_in m cs s (at q) ≤ error_in s p
   unfolding fields_at Alike
   same-apart s p q e =
       rw (closest-apart m law part ends cs p s) (subset-least m law part ends cs (at p) q s refl (at_small p) (inl (same_ends s p q e)))
 
-  -- so at p_bits that agree in the subset it is the same
+  -- so at p-bits that agree in the subset it is the same
   own-error : (s p q : ℕ) → Same m s p q → apart_in m cs s (at q) ≡ error_in s p
   own-error s p q e =
       omega (
@@ -89,7 +89,7 @@ module _ (m : Mode) (law : Lawful m) (part : ℕ) (ends cs : List Rgb) where
         closest-apart m law part ends cs q s,
       )
 
-  -- the p_bits of both together are each subset's own
+  -- the p-bits of both together are each subset's own
   pub own_bits : (ps : PBits) (s : ℕ) → s < 2 → Same m s (bits_in m part ends ps cs s) (chosen_bits m part ends ps cs)
   unfolding chosen_bits
   own_bits ps = two _ (law.trials.first _ _) (law.trials.second _ _)
@@ -139,7 +139,7 @@ module _ (m : Mode) (law : Lawful m) (part : ℕ) (ends cs : List Rgb) where
     optimal first second =
         omega (arith, split f, split (chosen_fields m part ends ps cs), optimal_in 0 (omega arith) first, optimal_in 1 (omega arith) second)
 
-  -- p_bits that are q's in subset 0 and r's in subset 1
+  -- p-bits that are q's in subset 0 and r's in subset 1
   module _ (p q r : ℕ) (first : Same m 0 q p) (second : Same m 1 r p) where
     -- the error is what closest_rgb finds in the two subsets, each at its own
     pub by_subset : apart m cs (at p) ≡ error_in 0 q + error_in 1 r
@@ -182,12 +182,12 @@ module _ (m : Mode) (law : Lawful m) (part : ℕ) (ends cs : List Rgb) where
 
   -- the greatest error, over pixels that are bytes
   module _ (stored : Stored m ends) (bytes : (i : ℕ) → Below 256 (get_or cs i black)) where
-    -- of fields at any p_bits
+    -- of fields at any p-bits
     pub at_most : (p : ℕ) → apart m cs (at p) ≤ 3121200
     unfolding fields_at
     at_most p = apart_small m law cs (at p) stored (at_small p) bytes
 
-    -- so of one subset, whatever p_bits are tried
+    -- so of one subset, whatever p-bits are tried
     pub tried_most : (p s : ℕ) → s < 2 → error_in s p ≤ 3121200
     tried_most p =
         two (λ (s : ℕ). error_in s p ≤ 3121200)

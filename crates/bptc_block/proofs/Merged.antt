@@ -23,7 +23,7 @@ use Rattle.bptc_block.proofs.Refusals.{Good}
 use Rattle.bptc_block.proofs.Chosen.{own_bits, by_subset, chosen_plain, at_most}
 
 module _ (m : Mode) (law : Lawful m) (part : ℕ) (ends cs : List Rgb) (ps : PBits) where
-  -- the p_bits by which subset s is finished
+  -- the p-bits by which subset s is finished
   abbrev q : ℕ → ℕ
   q s = bits_in m part ends ps cs s
 
@@ -37,7 +37,7 @@ module _ (px : List ℕ) (c : Candidate) where
   abbrev mode : Mode
   mode = mode_numbered c.mode
 
-  -- what closest_rgb finds in subset s, at the p_bits by which it is finished
+  -- what closest_rgb finds in subset s, at the p-bits by which it is finished
   abbrev found : ℕ → Closest
   found s = closest_in mode c.partition c.ends (bits_in mode c.partition c.ends c.p (colours_of px) s) s (colours_of px)
 

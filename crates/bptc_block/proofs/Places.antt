@@ -36,7 +36,7 @@ module _ (m : Mode) (part : ℕ) where
   channel-place zero h = omega (arith, front_place)
   channel-place (suc j) h = rw (add-suc 2 j, suc-mul) (omega (arith, next_place (widths m part) (2 + j), channel_width j (omega arith), channel-place j (omega arith)))
 
-  -- the first index follows the p_bits
+  -- the first index follows the p-bits
   pub first-index : sum (take 15 (widths m part)) ≡ m.number + 7 + 12 * m.channel_bits + m.p_bits
   unfolding widths
   first-index = omega (arith, next_place (widths m part) 14, channel-place 12 (omega arith))

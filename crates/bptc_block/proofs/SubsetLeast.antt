@@ -31,7 +31,7 @@ use Rattle.bptc_block.proofs.Modes.{Lawful}
 unfoldable pub apart_in : Mode → List Rgb → ℕ → Fields → ℕ
 apart_in m cs s f = over_pixels (in_subset f.partition s (apart_at m cs f))
 
--- the two ends of subset s are those of the endpoints at p_bits q, in one order or the other
+-- the two ends of subset s are those of the endpoints at p-bits q, in one order or the other
 unfoldable pub Alike : Mode → Fields → List Rgb → ℕ → ℕ → Type 0
 Alike m f ends q s = SameEnds m f.ends ends f.p q s ⊎ CrossEnds m f.ends ends f.p q s
 

@@ -1,4 +1,4 @@
--- The p_bits of the trial: those of one subset stand apart from the other's, and the trial leaves none out.
+-- The p-bits of the trial: those of one subset stand apart from the other's, and the trial leaves none out.
 use Prim.Native.Nat.{ℕ, ◌+◌, ◌*◌, ◌^◌, ◌<◌}
 use native.Mathlib.Omega.{arith}
 use mathlib.Core.Path.{◌≡◌}
@@ -13,7 +13,7 @@ use Rattle.bptc.specs.Mode.{Mode, mode1, mode3}
 use Rattle.bptc.specs.Shown.{p_bit}
 use Rattle.bptc_block.specs.Finish.{other_bits, joined_bits}
 
--- the p_bits that are tried, in their order
+-- the p-bits that are tried, in their order
 abbrev pub choices : Mode → List ℕ
 choices m = 0 ∷ other_bits m
 
@@ -28,11 +28,11 @@ Found m s p = (q : ℕ) × Memᴰ q (choices m) × Same m s q p
 
 -- what the laws of the trial ask of a mode
 pub record Trials (m : Mode) : Type 0 where
-  -- joined p_bits are each subset's own, and no more bits than those
+  -- joined p-bits are each subset's own, and no more bits than those
   pub first : (p q : ℕ) → Same m 0 p (joined_bits m p q)
   pub second : (p q : ℕ) → Same m 1 q (joined_bits m p q)
   pub fits : (p q : ℕ) → p < 2 ^ m.p_bits → q < 2 ^ m.p_bits → joined_bits m p q < 2 ^ m.p_bits
-  -- those that are tried are within the mode's bits, and whatever p_bits a subset may have are among them
+  -- those that are tried are within the mode's bits, and whatever p-bits a subset may have are among them
   pub tried : (q : ℕ) → Memᴰ q (choices m) → q < 2 ^ m.p_bits
   pub complete : (s p : ℕ) → s < 2 → p < 2 ^ m.p_bits → Found m s p
 
@@ -56,11 +56,11 @@ found_of m s p t =
     let (q, h, u) = any_of (λ (q : ℕ). same_test m s q p) (choices m) t in
     (q, h, same_of m s q p u)
 
--- every number of the mode's p_bits is found
+-- every number of the mode's p-bits is found
 abbrev whole_test : Mode → ℕ → Bool
 whole_test m s = all (found_test m s) (up_from 0 (2 ^ m.p_bits))
 
--- from what holds of joined p_bits and two tests
+-- from what holds of joined p-bits and two tests
 trials_of : (m : Mode) → ((p q : ℕ) → Same m 0 p (joined_bits m p q) × Same m 1 q (joined_bits m p q)) →
     ((p q : ℕ) → p < 2 ^ m.p_bits → q < 2 ^ m.p_bits → joined_bits m p q < 2 ^ m.p_bits) →
     T (all (λ (q : ℕ). ltb q (2 ^ m.p_bits)) (choices m)) → T (all (whole_test m) (up_from 0 2)) → Trials m

@@ -34,7 +34,7 @@ exchanged-other s k h = rw (ne_eqb (k / 2) s h)
 pub exchanged-four : (s k : ℕ) → s < 2 → k < 4 → exchanged s k < 4
 exchanged-four s k h l = pick_elim (λ (n : ℕ). n < 4) (eqb (k / 2) s) (λ t. omega arith) (λ t. l)
 
--- an index with its top bit set, taken from the largest; and the p_bits, which go with their endpoints
+-- an index with its top bit set, taken from the largest; and the p-bits, which go with their endpoints
 pub record Turns (m : Mode) : Type 0 where
   pub top : (i : ℕ) → 2 ^ (m.index_bits - 1) ≤ i → largest m - i < 2 ^ (m.index_bits - 1)
   pub exchange : (s k p : ℕ) → s < 2 → k < 4 → p < 2 ^ m.p_bits → p_bit m (exchanged_bits m s p) k ≡ p_bit m p (exchanged s k)
@@ -44,11 +44,11 @@ pub record Turns (m : Mode) : Type 0 where
 abbrev end_test : Mode → ℕ → ℕ → ℕ → Bool
 end_test m s p k = eqb (p_bit m (exchanged_bits m s p) k) (p_bit m p (exchanged s k))
 
--- the test of both laws of p_bits, at a number
+-- the test of both laws of p-bits, at a number
 abbrev bits_test : Mode → ℕ → ℕ → Bool
 bits_test m s p = and (ltb (exchanged_bits m s p) (2 ^ m.p_bits)) (all (end_test m s p) (up_from 0 4))
 
--- at every number of the mode's p_bits
+-- at every number of the mode's p-bits
 abbrev subset_test : Mode → ℕ → Bool
 subset_test m s = all (bits_test m s) (up_from 0 (2 ^ m.p_bits))
 

@@ -12,7 +12,7 @@ use lib.Seq.{get_or-drop}
 use Rattle.lists.specs.Rows.{up_from}
 use Rattle.lists.specs.Bits.{Fits, more, join}
 use Rattle.lists.proofs.Tests.{pick_elim}
-use Rattle.lists.proofs.Rows.{get_d_map, get_or-each, listed}
+use Rattle.lists.proofs.Rows.{get_or-map, get_or-each, listed}
 use Rattle.lists.proofs.Bits.{fits_append, fits_places, fits-same, join-later, join-then, join_single}
 use Rattle.bptc.specs.declared.Rgb.{Rgb}
 use Rattle.bptc.specs.Mode.{Mode, largest}
@@ -79,7 +79,7 @@ fits-channel w g es e h =
     (fits-same w (map g es)
     (λ i l.
     let k : i < length es = rw length-map at l in
-    rw (get_d_map 0 black g es i k) (h i (omega arith))))
+    rw (get_or-map 0 black g es i k) (h i (omega arith))))
 
 module _ (number bits part : ℕ) (es : List Rgb) (four : length es ≡ 4) where
   -- these fit where what follows does
@@ -142,7 +142,7 @@ module _ (bits h₀ b₀ : ℕ) (ends : List Rgb) (four : length ends ≡ 4) whe
 
 -- the fields of a block, written one after the other: h after each of them, and b the place after it
 module _ (number bits bs w part p n : ℕ) (ends : List Rgb) (four : length ends ≡ 4) where
-  -- the p_bits and the indexes
+  -- the p-bits and the indexes
   abbrev tail : ℕ
   tail = join (bs ∷ (w ∷ [])) (p ∷ (n ∷ []))
 

@@ -22,7 +22,7 @@ SameSubset m f ends ps s =
     (SameEnd m f (2 * s) ends ps (2 * s) × SameEnd m f (2 * s + 1) ends ps (2 * s + 1))
     ⊎ (SameEnd m f (2 * s) ends ps (2 * s + 1) × SameEnd m f (2 * s + 1) ends ps (2 * s))
 
--- a block of the candidate's mode, partition and endpoints, with its p_bits where these are fixed and with any indices
+-- a block of the candidate's mode, partition and endpoints, with its p-bits where these are fixed and with any indices
 pub record Allowed (c : Candidate) (block : List ℕ) : Type 0 where
   pub sixteen : length block ≡ 16
   pub bytes : Bytes block

@@ -18,7 +18,7 @@ pub data Check (number : ℕ) (Passes : Type 0) (Later : ℕ → Type 0) (n : �
 abbrev pub InMode : ℕ → (ℕ → Type 0) → ℕ → ℕ → Type 0
 InMode mode P first third = (mode ≡ 1 → P first) × (mode ≡ 3 → P third)
 
--- p_bits that are free, or fixed below a limit
+-- p-bits that are free, or fixed below a limit
 abbrev pub BitsWithin : ℕ → PBits → Type 0
 BitsWithin bits Free = Unit {0}
 BitsWithin bits (Fixed p) = p < bits
@@ -32,7 +32,7 @@ abbrev pub BlockChecked : List ℕ → (ℕ → Type 0) → ℕ → Type 0
 BlockChecked block Later = Check 2 (length block ≡ 16) Later
 
 -- 3 to 6: the mode is 1 or 3, the partition is at most 63, every channel is at most 63 in mode 1 and 127 in mode 3,
--- fixed p_bits are at most 3 in mode 1 and 15 in mode 3
+-- fixed p-bits are at most 3 in mode 1 and 15 in mode 3
 abbrev pub CandidateChecked : Candidate → (ℕ → Type 0) → ℕ → Type 0
 CandidateChecked c Later =
     Check 3 ((c.mode ≡ 1) ⊎ (c.mode ≡ 3))

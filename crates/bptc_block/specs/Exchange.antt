@@ -13,11 +13,11 @@ use Rattle.bptc_block.specs.declared.Fields.{Fields}
 abbrev pub exchanged : ℕ → ℕ → ℕ
 exchanged s k = pick (eqb (k / 2) s) (2 * s + (1 - k % 2)) k
 
--- the p_bits when subset s is exchanged: in mode 1 its one bit stays, in mode 3 its two change places
+-- the p-bits when subset s is exchanged: in mode 1 its one bit stays, in mode 3 its two change places
 unfoldable pub exchanged_bits : Mode → ℕ → ℕ → ℕ
 exchanged_bits m s p = pick (eqb m.p_bits 2) p (sum (map (λ (k : ℕ). bit p (exchanged s k) * 2 ^ k) (up_from 0 4)))
 
--- subset s exchanged: its endpoints and their p_bits change places, and each of its indices is taken from the largest
+-- subset s exchanged: its endpoints and their p-bits change places, and each of its indices is taken from the largest
 unfoldable pub flipped : Mode → ℕ → Fields → Fields
 flipped m s f =
     record {
@@ -35,7 +35,7 @@ swapped_ends ends t u =
     let e : ℕ → Rgb = λ k. get_or ends k black in
     pick t (e 1) (e 0) ∷ (pick t (e 0) (e 1) ∷ (pick u (e 3) (e 2) ∷ (pick u (e 2) (e 3) ∷ [])))
 
--- the two p_bits of a subset of mode 3, exchanged or not
+-- the two p-bits of a subset of mode 3, exchanged or not
 abbrev pub turned_bits : Bool → ℕ → ℕ
 turned_bits t p = pick t (p % 2 * 2 + p / 2) p
 

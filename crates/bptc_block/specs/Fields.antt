@@ -31,11 +31,11 @@ word_fields bits w =
 abbrev pub word_candidate : ℕ → ℕ → List ℕ → PBits → Candidate
 word_candidate mode partition ends p = record { mode = mode; partition = partition; ends = map pixel_of ends; p = p }
 
--- a candidate's p_bits as two numbers: fixed where the second is 0, and else free
+-- a candidate's p-bits as two numbers: fixed where the second is 0, and else free
 abbrev pub p_bits_of : ℕ → ℕ → PBits
 p_bits_of p free = pick (eqb free 0) (Fixed p) Free
 
--- fields in range: every channel and the p_bits below a limit, and the index of pixel i below a limit of its own
+-- fields in range: every channel and the p-bits below a limit, and the index of pixel i below a limit of its own
 pub record Within (channel bits : ℕ) (index : ℕ → ℕ) (f : Fields) : Type 0 where
   pub partition : f.partition < 64
   pub four : length f.ends ≡ 4
@@ -68,7 +68,7 @@ channel_values ends rest =
 abbrev pub front_values : ℕ → ℕ → List Rgb → List ℕ → List ℕ
 front_values number part ends rest = (2 ^ number) ∷ (part ∷ channel_values ends rest)
 
--- the widths of a block's fields, from the lowest bit: mode, partition, reds, greens, blues, p_bits, indices
+-- the widths of a block's fields, from the lowest bit: mode, partition, reds, greens, blues, p-bits, indices
 unfoldable pub widths : Mode → ℕ → List ℕ
 widths m part = front_widths m.number m.channel_bits (m.p_bits ∷ map (index_width m part) (up_from 0 16))
 

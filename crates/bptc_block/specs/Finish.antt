@@ -1,4 +1,4 @@
--- Finishing: the nearest index of every pixel, the first p_bits of least error where they are free, and the block.
+-- Finishing: the nearest index of every pixel, the first p-bits of least error where they are free, and the block.
 use Rattle.std.specs.Prelude.{ℕ, ◌+◌, ◌*◌, ◌/◌, ◌%◌, ◌^◌, List, [], ◌∷◌, map, eqb, get_or}
 use Rattle.lists.specs.Tests.{pick}
 use Rattle.lists.specs.Rows.{up_from}
@@ -18,29 +18,29 @@ use Rattle.bptc_block.specs.Chapter.{apart}
 use Rattle.bptc_block.specs.Exchange.{compressed}
 use Rattle.bptc_block.specs.Compressed.{Compressed}
 
--- The p_bits that are tried after 0, alike in both subsets, in the order of ALL. Mode 1: the one bit of a subset.
+-- The p-bits that are tried after 0, alike in both subsets, in the order of ALL. Mode 1: the one bit of a subset.
 -- Mode 3: the bit of the upper endpoint, that of the lower one, and both, for ALL has the lower endpoint's bit first.
 unfoldable pub other_bits : Mode → List ℕ
 other_bits m = pick (eqb m.p_bits 2) (0b11 ∷ []) (0b1010 ∷ (0b0101 ∷ (0b1111 ∷ [])))
 
--- what subset s keeps of its trial: the first p_bits of least error by closest_rgb
+-- what subset s keeps of its trial: the first p-bits of least error by closest_rgb
 unfoldable pub bits_for : Mode → ℕ → List Rgb → List Rgb → ℕ → ℕ
 bits_for m part ends cs s = first_least (λ (p : ℕ). (closest_in m part ends p s cs).error) 0 (other_bits m)
 
--- the p_bits by which subset s is finished: those of its trial where they are free
+-- the p-bits by which subset s is finished: those of its trial where they are free
 abbrev pub bits_in : Mode → ℕ → List Rgb → PBits → List Rgb → ℕ → ℕ
 bits_in m part ends Free cs s = bits_for m part ends cs s
 bits_in m part ends (Fixed p) cs s = p
 
--- the p_bits of subset 0 out of p and those of subset 1 out of q: the lower half and the upper half
+-- the p-bits of subset 0 out of p and those of subset 1 out of q: the lower half and the upper half
 unfoldable pub joined_bits : Mode → ℕ → ℕ → ℕ
 joined_bits m p q = let half : ℕ = 2 ^ (m.p_bits / 2) in p % half + q / half * half
 
--- the p_bits that finishing gives
+-- the p-bits that finishing gives
 unfoldable pub chosen_bits : Mode → ℕ → List Rgb → PBits → List Rgb → ℕ
 chosen_bits m part ends ps cs = joined_bits m (bits_in m part ends ps cs 0) (bits_in m part ends ps cs 1)
 
--- the fields at given p_bits, each pixel with its nearest colour
+-- the fields at given p-bits, each pixel with its nearest colour
 unfoldable pub fields_at : Mode → ℕ → List Rgb → List Rgb → ℕ → Fields
 fields_at m part ends cs p =
     record {

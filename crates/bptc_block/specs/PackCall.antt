@@ -9,7 +9,7 @@ use Rattle.bptc_block.specs.Packed.{packed}
 use Rattle.bptc_block.specs.Exchange.{compressed}
 use Rattle.bptc_block.specs.Refusal.{check_block, check_candidate, check_indices}
 
--- the candidate among what is handed in: its p_bits come as the plain number
+-- the candidate among what is handed in: its p-bits come as the plain number
 abbrev pub fixed_at : ℕ → Fields → Candidate
 fixed_at mode f = record { mode = mode; partition = f.partition; ends = f.ends; p = Fixed f.p }
 

@@ -33,12 +33,12 @@ within top c = and (leb c.r top) (and (leb c.g top) (leb c.b top))
 abbrev pub in_range : ℕ → List Rgb → Bool
 in_range top cs = all (within top) cs
 
--- free p_bits, or fixed ones up to the top
+-- free p-bits, or fixed ones up to the top
 abbrev pub p_in_range : ℕ → PBits → Bool
 p_in_range top Free = true
 p_in_range top (Fixed p) = leb p top
 
--- 4 to 6: the partition, the endpoint channels and the p_bits, by the greatest that these may be
+-- 4 to 6: the partition, the endpoint channels and the p-bits, by the greatest that these may be
 abbrev pub check_stored : ℕ → ℕ → ℕ → List Rgb → PBits → ℕ → ℕ
 check_stored channel bits partition ends p rest =
     unless (leb partition 63) 4 (unless (in_range channel ends) 5 (unless (p_in_range bits p) 6 rest))

@@ -1,10 +1,12 @@
 // What a block of modes 1 and 3 holds, and the answers of the calls. This crate has no code: its specs/ are the chapter's layout and
 // reading, the refusals and finishing, and its proofs/ the laws about them.
+#![tactic(auto)]
+
 use bptc::Rgb;
 
-// Partition, stored endpoints, p_bits as one number, and the sixteen full indices.
+// Partition, stored endpoints, p-bits as one number, and the sixteen full indices.
 // Endpoints 0 and 1 are subset 0's, 2 and 3 subset 1's.
-#[derive(Drop)]
+#[derive(Clone, Copy)]
 pub struct Fields {
     pub partition: u8,
     pub ends: [Rgb; 4],
@@ -13,7 +15,7 @@ pub struct Fields {
 }
 
 // The same fields in fewer numbers: an endpoint is one, red lowest, and so are the sixteen indices.
-#[derive(Drop)]
+#[derive(Clone, Copy)]
 pub struct Words {
     pub partition: u8,
     pub ends: [u32; 4],
@@ -21,15 +23,15 @@ pub struct Words {
     pub indexes: u64,
 }
 
-// The p_bits of a candidate: left to the finisher, or one number.
-#[derive(Drop)]
+// The p-bits of a candidate: left to the finisher, or one number.
+#[derive(Clone, Copy)]
 pub enum PBits {
     Free,
     Fixed(u8),
 }
 
 // A proposal for a block.
-#[derive(Drop)]
+#[derive(Clone, Copy)]
 pub struct Candidate {
     pub mode: u8,
     pub partition: u8,
@@ -38,14 +40,14 @@ pub struct Candidate {
 }
 
 // The answer of `finish`; the block stands in the lent part.
-#[derive(Drop)]
+#[derive(Clone, Copy)]
 pub struct Finished {
     pub refusal: u8,
     pub error: u32,
 }
 
 // The answer of `read`; the pixels stand in the lent part.
-#[derive(Drop)]
+#[derive(Clone, Copy)]
 pub struct Reading {
     pub refusal: u8,
     pub mode: u8,
@@ -56,7 +58,7 @@ pub struct Reading {
 }
 
 // The answer of `measure`.
-#[derive(Drop)]
+#[derive(Clone, Copy)]
 pub struct Measured {
     pub refusal: u8,
     pub error: u32,

@@ -51,7 +51,7 @@ module _ (I : ℕ) (narrow : I ≤ 3) (palette : List Rgb) (col : ℕ → Rgb) (
   unfolding closest digits join
   closest_found is l = pixels_on is [] 0 (omega arith) (λ i. pow_pos I) ∙ pair refl (zero-add _)
 
--- a subset's error at given p_bits
+-- a subset's error at given p-bits
 abbrev pub error_in : Mode → ℕ → List Rgb → List Rgb → ℕ → ℕ → ℕ
 error_in m part ends cs s q = (closest_in m part ends q s cs).error
 

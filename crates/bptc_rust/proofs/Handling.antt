@@ -1,4 +1,4 @@
--- SharedPBit and UniquePBits: a state of a subset's p_bits as one number, alike in both subsets.
+-- SharedPBit and UniquePBits: a state of a subset's p-bits as one number, alike in both subsets.
 use Prim.Native.Nat.{ℕ, ◌+◌, ◌*◌, ◌/◌, ◌^◌, ◌<◌}
 use native.Mathlib.Omega.{arith}
 use mathlib.Core.Path.{◌≡◌, refl, sym, ap, ◌∙◌}
@@ -25,7 +25,7 @@ use Rattle.bptc_rust.proofs.Promotion.{Promotes, promotes1, promotes3}
 use Rattle.bptc_rust.proofs.Digits.{digits}
 use Rattle.bptc_rust.proofs.Swaps.{p_number, bit_small}
 
--- what a handling of p_bits has to do with p_bits as one number, where `num` is a state's number
+-- what a handling of p-bits has to do with p-bits as one number, where `num` is a state's number
 pub record Handles {State : Type 0} (m : Mode) (p-bit : PBitHandling State) (fixed : ℕ → ℕ → State) (num : State → ℕ) : Type 0 where
   -- ALL is the order of the trial
   pub first : num p-bit.first ≡ 0
@@ -34,7 +34,7 @@ pub record Handles {State : Type 0} (m : Mode) (p-bit : PBitHandling State) (fix
   pub promotes : (ends : List Rgb) (s : ℕ) → s < 2 → Stored m ends → (p : State) →
       p-bit.promote_rgb p m.channel_bits (get_or ends (2 * s) black) (get_or ends (2 * s + 1) black)
       ≡ (end_shown m ends (num p) (2 * s), end_shown m ends (num p) (2 * s + 1))
-  -- fixed p_bits, taken apart, are those of their subset, and joined again they are the number
+  -- fixed p-bits, taken apart, are those of their subset, and joined again they are the number
   pub own : (s : ℕ) → s < 2 → (p : ℕ) → Same m s (num (fixed s p)) p
   pub whole : (p : ℕ) → p < 2 ^ m.p_bits → joined_bits m (num (fixed 0 p)) (num (fixed 1 p)) ≡ p
 
@@ -56,7 +56,7 @@ pub joined3 : (a b : Bool × Bool) → joined_bits mode3 (num3 a) (num3 b) ≡ p
 unfolding joined_bits digits join
 joined3 a b = omega (arith, bit_small a.0, bit_small a.1, bit_small b.0, bit_small b.1)
 
--- q has these p_bits in subset s
+-- q has these p-bits in subset s
 abbrev Placed : Mode → ℕ → ℕ → Bool → Bool → Type 0
 Placed m s q b c = (as_u8 b ≡ p_bit m q (2 * s)) × (as_u8 c ≡ p_bit m q (2 * s + 1))
 
@@ -89,7 +89,7 @@ module _ (m : Mode) (q : ℕ) where
       let y = promoted promotes ends stored (2 * s + 1) (omega arith) c high in
       λ i. (x i, y i)
 
-  -- p_bits taken out of p where the mode has those of the subset
+  -- p-bits taken out of p where the mode has those of the subset
   fixed_same : (s p j k : ℕ) → Placed m s q (p_bit_at p j) (p_bit_at p k) → j ≡ 2 * s * m.p_bits / 4 → k ≡ (2 * s + 1) * m.p_bits / 4 → Same m s q p
   fixed_same s p j k (low, high) e f = record { low = sym low ∙ fixed-bit p j ∙ ap (bit p) e; high = sym high ∙ fixed-bit p k ∙ ap (bit p) f }
 

@@ -45,7 +45,7 @@ unfolding writes
 writes_each f w [] s ws vs = refl
 writes_each f w (e ∷ l) s ws vs = writes_each f w l (write_u64 s (f e) w) ws vs
 
--- the fields after the endpoints: the p_bits, and the indexes as one
+-- the fields after the endpoints: the p-bits, and the indexes as one
 abbrev pub tail_widths : List Bool → ℕ → List ℕ
 tail_widths ps w = replicate (length ps) 1 ++ (w ∷ [])
 
@@ -53,7 +53,7 @@ tail_widths ps w = replicate (length ps) 1 ++ (w ∷ [])
 abbrev pub tail_values : List Bool → ℕ → List ℕ
 tail_values ps n = map as_u8 ps ++ (n ∷ [])
 
--- the stream of a block: mode, partition, endpoints, p_bits and the indexes as one
+-- the stream of a block: mode, partition, endpoints, p-bits and the indexes as one
 abbrev pub stream : Mode → ℕ → List Rgb → List Bool → ℕ → ℕ → BitStream
 stream m part es ps n w =
     let s : BitStream = write_u64 (write_u64 new (2 ^ m.number) (m.number + 1)) part 6 in

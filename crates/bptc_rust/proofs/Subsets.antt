@@ -1,4 +1,4 @@
--- The two subsets, each compressed by itself, and their indexes, errors and p_bits together: those of what finishing chooses.
+-- The two subsets, each compressed by itself, and their indexes, errors and p-bits together: those of what finishing chooses.
 use Prim.Native.Nat.{ℕ, ◌+◌, ◌-◌, ◌*◌, ◌/◌, ◌^◌, ◌≤◌, ◌<◌}
 use native.Mathlib.Nat.{add_comm}
 use native.Mathlib.Omega.{arith}
@@ -43,7 +43,7 @@ pub record Ported {State : Type 0} (m : Mode) (p-bit : PBitHandling State) (fixe
   pub num : State → ℕ
   pub handles : Handles m p-bit fixed num
 
--- p_bits joined with themselves
+-- p-bits joined with themselves
 joined_self : (m : Mode) (p : ℕ) → joined_bits m p p ≡ p
 unfolding joined_bits
 joined_self m p = add_comm _ _ ∙ split p (m.p_bits / 2)
@@ -58,7 +58,7 @@ module _ {State : Type 0} (m : Mode) (p-bit : PBitHandling State) (fixed : ℕ �
   abbrev colours : ℕ → List Rgb
   colours s = map (λ (i : ℕ). get_or cs i black) (members part s pixels)
 
-  -- the error of subset s at p_bits
+  -- the error of subset s at p-bits
   abbrev error : ℕ → ℕ → ℕ
   error = error_in m part ends cs
 
@@ -91,7 +91,7 @@ module _ {State : Type 0} (m : Mode) (p-bit : PBitHandling State) (fixed : ℕ �
   best Free s h = rw (port.handles.first, port.handles.others) at (tried_best s h p-bit.first p-bit.others)
   best (Fixed p) s h = tried_best s h (fixed s p) []
 
-  -- the p_bits that finishing gives
+  -- the p-bits that finishing gives
   abbrev chosen : PBits → ℕ
   chosen ps = chosen_bits m part ends ps cs
 
@@ -109,7 +109,7 @@ module _ {State : Type 0} (m : Mode) (p-bit : PBitHandling State) (fixed : ℕ �
   abbrev f : PBits → Fields
   f ps = chosen_fields m part ends ps cs
 
-  -- the states that both subsets keep, and what their errors, indexes and p_bits make together
+  -- the states that both subsets keep, and what their errors, indexes and p-bits make together
   pub record Agreed (ps : PBits) : Type 0 where
     pub state₀ : State
     pub state₁ : State
@@ -119,7 +119,7 @@ module _ {State : Type 0} (m : Mode) (p-bit : PBitHandling State) (fixed : ℕ �
     pub merges : merge2 m.index_bits (map_of part) (indexes 0 (num state₀)) (indexes 1 (num state₁)) ≡ digits m.index_bits (f ps).indices
     pub joins : T (p_in_range (2 ^ m.p_bits - 1) ps) → (f ps).p ≡ joined_bits m (num state₀) (num state₁)
 
-  -- there are such states, for free and for fixed p_bits
+  -- there are such states, for free and for fixed p-bits
   pub agreed : (ps : PBits) → Agreed ps
   unfolding chosen_fields fields_at
   agreed ps =

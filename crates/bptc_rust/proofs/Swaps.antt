@@ -1,4 +1,4 @@
--- The Rust's swaps of endpoints and p_bits are the exchanges of subsets.
+-- The Rust's swaps of endpoints and p-bits are the exchanges of subsets.
 use Prim.Native.Nat.{ℕ, zero, suc, ◌+◌, ◌*◌, ◌^◌, ◌<◌}
 use native.Mathlib.Nat.{mul-one}
 use native.Mathlib.Omega.{arith}
@@ -21,7 +21,7 @@ use Rattle.bptc_rust.specs.Words.{swap}
 use Rattle.bptc_rust.specs.Colour.{as_u8}
 use Rattle.bptc_rust.proofs.Digits.{digits, Small, digit_at}
 
--- the number of a list of p_bits
+-- the number of a list of p-bits
 abbrev pub p_number : List Bool → ℕ
 p_number ps = digits 1 (map as_u8 ps)
 
@@ -75,7 +75,7 @@ both_ends m f t u four =
     ap (λ (es : List Rgb). pick u (swap black es 2 3) es) (once_ends m 0 (omega arith) f four t)
     ∙ once_ends m 1 (omega arith) (pick t (flipped m 0 f) f) (once_four m 0 (omega arith) f four t) u
 
--- the p_bits of mode 3
+-- the p-bits of mode 3
 pub once_bits : (s : ℕ) → s < 2 → (f : Fields) (ps : List Bool) (t : Bool) → length ps ≡ 4 → f.p ≡ p_number ps →
     (pick t (flipped mode3 s f) f).p ≡ p_number (pick t (swap false ps (2 * s) (2 * s + 1)) ps)
 unfolding flipped

@@ -1,4 +1,4 @@
--- A program that follows compress_p2, exchanges endpoints and p_bits and writes the fields makes the packed block.
+-- A program that follows compress_p2, exchanges endpoints and p-bits and writes the fields makes the packed block.
 use Prim.Native.Nat.{ℕ, ◌+◌, ◌-◌, ◌*◌, ◌/◌, ◌%◌, ◌^◌, ◌<◌}
 use mathlib.Core.Path.{◌≡◌, refl, sym, ap, ◌∙◌}
 use mathlib.Core.Bool.{Bool, true, false}
@@ -40,7 +40,7 @@ ends_turned m f true false four = refl
 ends_turned m f false true four = refl
 ends_turned m f false false four = listed black f.ends 4 four
 
--- the test of mode 3's p_bits after both exchanges
+-- the test of mode 3's p-bits after both exchanges
 abbrev both_test : Bool → Bool → ℕ → Bool
 both_test t u p =
     let once : ℕ = pick t (exchanged_bits mode3 0 p) p in
@@ -54,7 +54,7 @@ bits-both true false p h = eqb→eq _ _ (tested (both_test true false) 16 tt p h
 bits-both false true p h = eqb→eq _ _ (tested (both_test false true) 16 tt p h)
 bits-both false false p h = eqb→eq _ _ (tested (both_test false false) 16 tt p h)
 
--- the p_bits of mode 3 after both exchanges
+-- the p-bits of mode 3 after both exchanges
 pub bits-turned : (f : Fields) (t u : Bool) → f.p < 16 →
     turned_bits t (f.p % 4) + turned_bits u (f.p / 4 % 4) * 4 ≡ (pick u (flipped mode3 1 (pick t (flipped mode3 0 f) f)) (pick t (flipped mode3 0 f) f)).p
 unfolding flipped
@@ -119,7 +119,7 @@ module _ (m : Mode) (law : Lawful m) (known : Masks m) (f : Fields) (plain : Pla
         rw (list, map_same f.partition plain.partition, list_digits m.index_bits known.narrow f.indices plain.sixteen (plain_small m f plain))
         (compress_indexes m law known f plain)
 
-    -- with the endpoints swapped as it says, and the p_bits p
+    -- with the endpoints swapped as it says, and the p-bits p
     pub ready : (t u : Bool) (n p : ℕ) → n ≡ (compress_p2 m.index_bits w (PARTITION-SET-2 f.partition)).0.compressed_indexes →
         t ≡ (compress_p2 m.index_bits w (PARTITION-SET-2 f.partition)).1 → u ≡ (compress_p2 m.index_bits w (PARTITION-SET-2 f.partition)).2 →
         p ≡ (pick u (flipped m 1 (pick t (flipped m 0 f) f)) (pick t (flipped m 0 f) f)).p → Ready m f (swapped_ends f.ends t u) p n

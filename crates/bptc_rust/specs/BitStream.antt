@@ -35,7 +35,7 @@ write_endpoints_rgb B self endpoints =
     let greens : BitStream = loop endpoints reds (λ (s : BitStream) (e : Rgb). write_u64 s e.g B) in
     loop endpoints greens (λ (s : BitStream) (e : Rgb). write_u64 s e.b B)
 
--- the p_bits
+-- the p-bits
 abbrev pub write_endpoints_p : BitStream → List Bool → BitStream
 write_endpoints_p self p = loop p self (λ (s : BitStream) (p : Bool). write_u64 s (as_u8 p) 1)
 

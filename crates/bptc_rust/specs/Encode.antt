@@ -12,7 +12,7 @@ use Rattle.bptc_rust.specs.IndexList.{merge2}
 use Rattle.bptc_rust.specs.Closest.{closest_rgb}
 use Rattle.bptc_rust.specs.Compressed.{mode1, mode3}
 
--- compress_rgb from its p_bits on: error, indexes and state. Fixed p_bits are the only possibility, free ones are ALL.
+-- compress_rgb from its p-bits on: error, indexes and state. Fixed p-bits are the only possibility, free ones are ALL.
 unfoldable pub compress_rgb : {State : Type 0} → PBitHandling State → ℕ → ℕ → List Rgb → Rgb → Rgb → State → List State → ℕ × ℕ × State
 compress_rgb {State} p-bit B I block e0 e1 first others =
     pick_best_of_directly first others
@@ -30,7 +30,7 @@ possibilities p-bit fixed (Fixed p) = (fixed p, [])
 abbrev pub shared : ℕ → ℕ → Bool
 shared s p = p_bit_at p s
 
--- the p_bits of subset s in mode 3
+-- the p-bits of subset s in mode 3
 abbrev pub unique : ℕ → ℕ → Bool × Bool
 unique s p = (p_bit_at p (2 * s), p_bit_at p (2 * s + 1))
 

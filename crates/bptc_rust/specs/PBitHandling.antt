@@ -1,4 +1,4 @@
--- bc7.rs: the p_bits of a subset, and the first of least error among them.
+-- bc7.rs: the p-bits of a subset, and the first of least error among them.
 use Rattle.std.specs.Prelude.{ℕ, Bool, true, false, List, [], ◌∷◌, ltb}
 use Rattle.lists.specs.Tests.{pick}
 use Rattle.bptc.specs.declared.Rgb.{Rgb}

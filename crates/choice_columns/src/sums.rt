@@ -30,7 +30,7 @@ fn shifted(words: [u32; 4], a: u32, b: u32, c: u32, d: u32) -> [u32; 4]
 }
 
 // What the least keys of four columns tell.
-#[derive(Drop)]
+#[derive(Clone, Copy)]
 pub struct ColumnSums {
     pub all: [u32; 4],
     pub second: [u32; 4],

@@ -1,4 +1,4 @@
--- The numbers of the four choices of mode 3's p_bits give the keys of their palettes' colours, a choice in each column.
+-- The numbers of the four choices of mode 3's p-bits give the keys of their palettes' colours, a choice in each column.
 use Prim.Native.Nat.{ℕ, zero, suc, ◌+◌, ◌-◌, ◌*◌, ◌/◌, ◌%◌, ◌^◌, ◌≤◌, ◌<◌}
 use native.Mathlib.Omega.{arith}
 use mathlib.Core.Path.{◌≡◌, refl, ap, ap₂, ◌∙◌}
@@ -137,7 +137,7 @@ module _ (ends : List Rgb) (stored : Stored mode3 ends) where
 
     -- the columns of the pixels' keys
     module _ (columns : List (List ℕ)) (out : columns ≡ map (columns_of4 choice_key) (up_from 0 16)) where
-      -- the least key of a column tells the nearest index at its p_bits, and the distance
+      -- the least key of a column tells the nearest index at its p-bits, and the distance
       column_is : (c i : ℕ) → i < 16 → c < 4 →
           column_at columns c i ≡ raised_in mode3 ends (column_bits c) mask (colours_of px) i * 8 + index_in mode3 ends (column_bits c) mask (colours_of px) i
       unfolding nearest nearest_by largest pixel_key

@@ -1,4 +1,4 @@
--- Mode 3 at free p_bits: the first column of least sum is the choice that each subset keeps.
+-- Mode 3 at free p-bits: the first column of least sum is the choice that each subset keeps.
 use Prim.Native.Nat.{ℕ, ◌+◌, ◌-◌, ◌*◌, ◌/◌, ◌%◌, ◌^◌, ◌<◌}
 use native.Mathlib.Omega.{arith}
 use mathlib.Core.Path.{◌≡◌, sym, ap, ap₂, ◌∙◌}
@@ -41,7 +41,7 @@ pub word_small : (ends : List Rgb) (p mask : ℕ) (cs : List Rgb) → indexes_in
 unfolding indexes_in largest
 word_small ends p mask cs = joined_lt (index_in mode3 ends p mask cs) (λ i. omega (arith, nearest_small mode3 ends p (bit mask i) (get_or cs i black))) 16 0
 
--- the p_bits of two columns
+-- the p-bits of two columns
 pub joined_columns : (i j : ℕ) → i < 4 → j < 4 → (i % 2 * 2 + i / 2) + (j % 2 * 2 + j / 2) * 4 ≡ joined_bits mode3 (column_bits i) (column_bits j)
 unfolding joined_bits column_bits
 joined_columns i j h k =
@@ -55,7 +55,7 @@ module _ (part : ℕ) (ends cs : List Rgb) where
   column_sum s c = over mode3 part ends cs s (column_bits c)
 
   module _ (s : ℕ) (sums : List ℕ) (made : sums ≡ map (column_sum s) (up_from 0 4)) (at : ℕ) where
-    -- the first of least sum has the p_bits that the subset keeps
+    -- the first of least sum has the p-bits that the subset keeps
     pub column_bits_lem : at ≡ first_least (λ (k : ℕ). get_or sums k 0) 0 (1 ∷ (2 ∷ (3 ∷ []))) → column_bits at ≡ bits_for mode3 part ends cs s
     unfolding other_bits column_bits
     column_bits_lem e =

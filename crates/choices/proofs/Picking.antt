@@ -90,7 +90,7 @@ module _ (m : Mode) (law : Lawful m) (part : ℕ) (ends : List Rgb) where
         go (suc zero) h = refl
         go (suc (suc b)) h = absurd (omega arith)
 
-    -- at free p_bits
+    -- at free p-bits
     pub free-picked : (q r : ℕ) → q ≡ bits_for m part ends cs 0 → r ≡ bits_for m part ends cs 1 →
         ◌≡◌ {A = Picked} (record { indexes = joined_from m.index_bits (either q r) 0 16; sum = over m part ends cs 0 q + over m part ends cs 1 r; p = joined_bits m q r })
         (picked_for m part ends Free cs)
@@ -103,7 +103,7 @@ module _ (m : Mode) (law : Lawful m) (part : ℕ) (ends : List Rgb) where
           p = joined_bits m (bits_for m part ends cs 0) (bits_for m part ends cs 1);
         })
 
-    -- at free p_bits, mixed by the bits of subset 1's indices
+    -- at free p-bits, mixed by the bits of subset 1's indices
     pub mixed-picked : (q r n : ℕ) → 2 ^ m.index_bits ≤ 8 → n ≡ joined_bits m q r → q ≡ bits_for m part ends cs 0 → r ≡ bits_for m part ends cs 1 →
         ◌≡◌ {A = Picked}
         (record {

@@ -37,7 +37,7 @@ least-raised f n best (x ∷ xs) =
     go false e = rw e (lt-leb (f best + n) (f x + n) (omega (arith, leb-false (f best) (f x) e)))
 
 module _ (m : Mode) (part : ℕ) (ends cs : List Rgb) where
-  -- the raised distances of subset s at p_bits
+  -- the raised distances of subset s at p-bits
   abbrev pub over : ℕ → ℕ → ℕ
   over s p = over_pixels (λ (i : ℕ). pick (eqb (bit (mask_of part) i) s) (raised_in m ends p (mask_of part) cs i) 0)
 
@@ -72,7 +72,7 @@ module _ (m : Mode) (part : ℕ) (ends cs : List Rgb) where
   unfolding raised_all
   rest_all = pixels-split (λ (i : ℕ). raised (get_or cs i black)) (bit (mask_of part)) (λ i h. omega arith)
 
-  -- the first p_bits of least raised distances are those of least error
+  -- the first p-bits of least raised distances are those of least error
   pub bits-raised : (s : ℕ) → first_least (over s) 0 (other_bits m) ≡ bits_for m part ends cs s
   unfolding bits_for
   bits-raised s = ap (λ (f : ℕ → ℕ). first_least f 0 (other_bits m)) (fun_ext (over_is s)) ∙ least-raised (error_in s) (rest s) 0 (other_bits m)

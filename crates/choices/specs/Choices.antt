@@ -1,10 +1,10 @@
--- The four choices of mode 3's p_bits as four columns.
+-- The four choices of mode 3's p-bits as four columns.
 use Rattle.std.specs.Prelude.{ℕ, ◌/◌, ◌%◌, List, [], ◌∷◌, get_or}
 use Rattle.bptc.specs.declared.Rgb.{Rgb}
 use Rattle.bptc.specs.Mode.{mode3}
 use Rattle.bptc.specs.Palette.{palette_at}
 
--- the p_bits of a column, alike in both subsets
+-- the p-bits of a column, alike in both subsets
 unfoldable pub column_bits : ℕ → ℕ
 column_bits c = get_or (0b0000 ∷ (0b1010 ∷ (0b0101 ∷ (0b1111 ∷ [])))) c 0
 

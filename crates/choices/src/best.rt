@@ -5,7 +5,7 @@ ghost use Rattle.lists.specs.Least.{first_least};
 use closest::pick::either;
 
 // A column and its sum.
-#[derive(Drop)]
+#[derive(Clone, Copy)]
 pub struct Best {
     pub at: u32,
     pub sum: u32,

@@ -1,4 +1,4 @@
-// The search's numbers of the four choices of p_bits, a choice in each column.
+// The search's numbers of the four choices of p-bits, a choice in each column.
 ghost use Rattle.std.specs.Prelude.{◌≡◌, ◌/◌, ◌%◌};
 ghost use Rattle.bptc.specs.Mode.{mode3};
 ghost use Rattle.bptc.specs.Shown.{Stored};
@@ -10,7 +10,7 @@ use key_numbers::columns::numbers_of4;
 use palette::Mode3;
 use palette::palettes::{WEIGHTS_2, ends_shown, rows};
 
-// The search's numbers of the four choices of p_bits, each of them in both subsets. Requires endpoints within the mode's width.
+// The search's numbers of the four choices of p-bits, each of them in both subsets. Requires endpoints within the mode's width.
 // The palettes are made by `ends_shown` and `rows`, which the compiler puts in line, and not by `Mode3::palettes`, which it would call.
 pub(crate) fn choice_numbers(ends: [Rgb; 4]) -> [u32; 128]
     requires { Stored mode3 ends }

@@ -1,4 +1,6 @@
-// The search in mode 3 at free p_bits: the four choices of a subset's two p_bits, which both subsets share, are four columns of one search.
+// The search in mode 3 at free p-bits: the four choices of a subset's two p-bits, which both subsets share, are four columns of one search.
+#![tactic(auto)]
+
 ghost use Rattle.std.specs.Prelude.{◌≡◌, ◌+◌, ◌*◌, ◌/◌, ◌%◌, ◌<◌, map, length};
 ghost use Rattle.lists.specs.Rows.{up_from, over_pixels};
 ghost use Rattle.bptc.specs.Mode.{mode3};
@@ -20,7 +22,7 @@ use partitions::{entry2, mask};
 mod best;
 mod choice;
 
-// The two p_bits of a column, the lower endpoint's first.
+// The two p-bits of a column, the lower endpoint's first.
 fn bits_of(column: u32) -> u32
     requires { column < 4 }
     ensures { (result ≡ column % 2 * 2 + column / 2) × (result < 4) }

@@ -14,11 +14,12 @@ use Rattle.lists.specs.Least.{first_least}
 use Rattle.lists.proofs.Tests.{pick-map}
 use Rattle.lists.proofs.Least.{least-none, least-next, least-all, least-keeps, earliest}
 use Rattle.bptc_block.specs.declared.Candidate.{Candidate}
+use Rattle.bptc_block.specs.Compressed.{Compressed}
 use Rattle.bptc_block.specs.Promise.{FinishPromise}
 use Rattle.chooser.specs.declared.Chooser.{Chooser}
 use Rattle.chooser.specs.declared.Started.{Started}
 use Rattle.chooser.specs.declared.Offered.{Offered}
-use Rattle.chooser.specs.Rule.{invalid}
+use Rattle.chooser.specs.Rule.{invalid, better}
 use Rattle.chooser.specs.StartCall.{empty_over, started_over, start_of}
 use Rattle.chooser.specs.OfferCall.{offer_refusal, finish_gives, kept, accepting}
 use Rattle.chooser.specs.Calls.{Call, offer, take, after, accepted, held}
@@ -54,9 +55,9 @@ module _ (px part : List ℕ) (sixteen : length part ≡ 16) where
   goes_on : {ch end : Chooser} {cs : List Candidate} (best : Candidate) → AcceptedOffers ch cs end → ch.pixels ≡ px → kept ch ≡ finish_gives px best →
       held end part ≡ finish_gives px (first_least error best cs)
   goes_on {ch} best none p e = rw (least-none error best) (held_kept ch part sixteen ∙ e)
-  goes_on best (more {c = c} {cs = cs} ok rest) p e =
+  goes_on {ch} best (more {c = c} {cs = cs} ok rest) p e =
       rw (least-next error best c cs)
-      (goes_on (pick (leb (error best) (error c)) best c) rest p (rw (e, p) (sym (pick-map (finish_gives px) (leb (error best) (error c)) best c))))
+      (goes_on (pick (leb (error best) (error c)) best c) rest p (ap (λ (k : Compressed). better k (finish_gives ch.pixels c)) e ∙ rw p (sym (pick-map (finish_gives px) (leb (error best) (error c)) best c))))
 
   -- from an empty chooser on: the first accepted candidate is kept, since its error is below that of `invalid`
   promise : {end : Chooser} (cs : List Candidate) → AcceptedOffers (empty_over px) cs end → length px ≡ 48 → Bytes px → FourEnds cs → SomeAccepted cs → Promise px cs (held end part)

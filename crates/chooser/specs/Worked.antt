@@ -33,7 +33,7 @@ grey v = record { r = v; g = v; b = v }
 abbrev pub zeros : ℕ → List ℕ
 zeros n = replicate n 0
 
--- the zero candidate of a mode, but for endpoint 0 and the p_bits
+-- the zero candidate of a mode, but for endpoint 0 and the p-bits
 abbrev pub zero_but : ℕ → Rgb → PBits → Candidate
 zero_but mode e p = record { mode = mode; partition = 0; ends = e ∷ replicate 3 black; p = p }
 
@@ -60,7 +60,7 @@ table =
     -- P4, P5: endpoint 0 at its largest, in mode 3 with its p-bit
     ∷ finishes (grey 0) (zero_but 1 (grey 63) (Fixed 0)) (0x02 ∷ 0xc0 ∷ 0x0f ∷ 0x00 ∷ 0xc0 ∷ 0x0f ∷ 0x00 ∷ 0xc0 ∷ 0x0f ∷ zeros 7) 0
     ∷ finishes (grey 0) (zero_but 3 (grey 127) (Fixed 1)) (0x08 ∷ 0x00 ∷ 0xfe ∷ 0x00 ∷ 0x00 ∷ 0xe0 ∷ 0x0f ∷ 0x00 ∷ 0x00 ∷ 0xfe ∷ 0x00 ∷ 0x80 ∷ zeros 4) 0
-    -- P6, P7: free p_bits
+    -- P6, P7: free p-bits
     ∷ finishes (grey 2) (zero_but 1 black Free) (0x02 ∷ (zeros 9 ++ (0x03 ∷ zeros 5))) 0
     ∷ finishes (grey 1) (zero_but 1 black Free) (0x02 ∷ zeros 15) 48
     -- P8: partition 63

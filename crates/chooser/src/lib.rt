@@ -1,4 +1,6 @@
 // Choosing among candidates: the best block so far over pixels, kept from offer to offer.
+#![tactic(auto)]
+
 ghost use Rattle.std.specs.Prelude.{◌≡◌, length};
 ghost use Rattle.bptc_block.specs.Fields.{word_candidate};
 ghost use Rattle.bptc_block.specs.Refusal.{check_candidate};
@@ -13,7 +15,7 @@ pub use block::{Candidate, PBits, Rgb};
 use finishing::words::finish_words;
 
 // The pixels that candidates are finished over, and the best block so far with its error.
-#[derive(Drop)]
+#[derive(Clone, Copy)]
 pub struct Chooser {
     pub pixels: [u8; 48],
     pub block: [u8; 16],
@@ -21,28 +23,28 @@ pub struct Chooser {
 }
 
 // The answer of `start`.
-#[derive(Drop)]
+#[derive(Clone, Copy)]
 pub struct Started {
     pub refusal: u8,
     pub chooser: Chooser,
 }
 
 // The answer of `offer`, and the chooser handed back.
-#[derive(Drop)]
+#[derive(Clone, Copy)]
 pub struct Offered {
     pub refusal: u8,
     pub chooser: Chooser,
 }
 
 // The answer of `take`; the block stands in the lent part.
-#[derive(Drop)]
+#[derive(Clone, Copy)]
 pub struct Taken {
     pub refusal: u8,
     pub error: u32,
 }
 
 // The answer of `take` beside the chooser, which it does not alter.
-#[derive(Drop)]
+#[derive(Clone, Copy)]
 pub struct Took {
     pub answer: Taken,
     pub chooser: Chooser,

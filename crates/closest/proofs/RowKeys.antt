@@ -1,5 +1,5 @@
 -- The search's numbers, made from both palettes, give the keys of the palettes' colours; the least of them tell the nearest indices.
-use Prim.Native.Nat.{ℕ, ◌+◌, ◌*◌, ◌/◌, ◌%◌, ◌^◌, ◌≤◌, ◌<◌}
+use Prim.Native.Nat.{ℕ, suc, ◌+◌, ◌*◌, ◌/◌, ◌%◌, ◌^◌, ◌≤◌, ◌<◌}
 use native.Mathlib.Omega.{arith}
 use mathlib.Core.Path.{◌≡◌, sym, ap, ap₂, ◌∙◌}
 use mathlib.Core.List.{List, [], map}
@@ -10,14 +10,14 @@ use Rattle.lists.specs.Bytes.{Bytes}
 use Rattle.lists.specs.Digits.{bit}
 use Rattle.bptc.specs.Mode.{Mode, largest}
 use Rattle.bptc.specs.Colour.{black, colours_of, dist_sq}
-use Rattle.bptc.specs.Shown.{Stored}
-use Rattle.bptc.specs.Palette.{palette_at, palettes, coloured, word_at}
+use Rattle.bptc.specs.Shown.{Stored, end_shown}
+use Rattle.bptc.specs.Palette.{palette_at, palettes, coloured, word_at, row_weights, blended_rows}
 use Rattle.bptc.specs.Nearest.{nearest_by, nearest}
 use Rattle.bptc.specs.Pixels.{pixel_of}
 use Rattle.lists.proofs.Rows.{length-up_from, get_or-each, each_same, listed}
 use Rattle.bptc.proofs.ColourBounds.{pixels-shown}
 use Rattle.bptc.proofs.Modes.{Shades}
-use Rattle.bptc.proofs.Shading.{palette_byte, word-shown}
+use Rattle.bptc.proofs.Shading.{palette_byte, palettes-made, word-shown}
 use Rattle.bptc.specs.declared.Colour.{Colour}
 use Rattle.keys.specs.Keys.{least_of4, sum_key, raised, key_at, pixel_key, Steps}
 use Rattle.search.specs.Columns.{columns_of1, columns_of2}
@@ -39,6 +39,14 @@ module _ (m : Mode) (shades : Shades m) (few : largest m < 8) (ends : List Rgb) 
       let rows : List (List Colour) = coloured (palettes m ends p) in
       ap pixel_of (get_or-each 0 (λ (k : ℕ). word_at rows (k / 8) (k % 8)) 16 (s * 8 + j) (omega arith) ∙ ap₂ (word_at rows) (digits_div s l) (digits_mod s l))
       ∙ word-shown m few ends p s j two index shades stored
+
+-- the numbers made from the shown endpoints are those of the mode's palettes
+pub numbers_made : (m : Mode) (shades : Shades m) (few : largest m < 8) (ends : List Rgb) (p : ℕ) (shown : List Rgb) (rows : List (List Colour)) (numbers : List ℕ) →
+    shown ≡ map (end_shown m ends p) (up_from 0 4) → rows ≡ coloured (blended_rows (row_weights m) (suc (largest m)) shown) →
+    numbers ≡ numbers_of 8 16 (λ (k : ℕ). pixel_of (get_or (flat_rows rows) k 0)) (λ (k : ℕ). k % 8) →
+    numbers ≡ numbers_of 8 16 (λ (k : ℕ). pixel_of (get_or (flat_rows (coloured (palettes m ends p))) k 0)) (λ (k : ℕ). k % 8)
+numbers_made m shades few ends p shown rows numbers e f g =
+    g ∙ ap (λ (rows : List (List Colour)). numbers_of 8 16 (λ (k : ℕ). pixel_of (get_or (flat_rows rows) k 0)) (λ (k : ℕ). k % 8)) (f ∙ palettes-made m shades few ends p shown e)
 
 -- the numbers of a mode's palettes, and pixels
 module _ (m : Mode) (shades : Shades m) (few : largest m < 8) (ends : List Rgb) (p : ℕ) (stored : Stored m ends) (numbers : List ℕ)

@@ -1,4 +1,4 @@
--- What the search finds at given p_bits, each pixel in the palette of its own subset.
+-- What the search finds at given p-bits, each pixel in the palette of its own subset.
 use Rattle.std.specs.Prelude.{ℕ, ◌+◌, ◌*◌, List, map, eqb, get_or, replicate}
 use Rattle.bptc.specs.declared.Rgb.{Rgb}
 use Rattle.lists.specs.Tests.{pick}

@@ -1,4 +1,4 @@
--- What the search gives at fixed p_bits, or at the first of least error where they are free.
+-- What the search gives at fixed p-bits, or at the first of least error where they are free.
 use Rattle.std.specs.Prelude.{ℕ, ◌+◌, List, get_or}
 use Rattle.std.specs.Int.Bits.{bit_and, bit_xor}
 use Rattle.bptc.specs.declared.Rgb.{Rgb}
@@ -21,7 +21,7 @@ raised_all cs = over_pixels (λ (i : ℕ). raised (get_or cs i black))
 abbrev pub mixed : ℕ → ℕ → ℕ → ℕ
 mixed a b ones = bit_xor a (bit_and (bit_xor a b) ones)
 
--- the indices at the p_bits that finishing gives, the summed errors of both subsets, raised, and those p_bits
+-- the indices at the p-bits that finishing gives, the summed errors of both subsets, raised, and those p-bits
 unfoldable pub picked_for : Mode → ℕ → List Rgb → PBits → List Rgb → Picked
 picked_for m part ends ps cs =
     record {

@@ -36,7 +36,7 @@ pub fn word(bits: u32, best: &[u32; 16]) -> u64
 }
 
 // The summed raised distances of all pixels, and of those of subset 1.
-#[derive(Drop)]
+#[derive(Clone, Copy)]
 pub(crate) struct Sums {
     pub all: u32,
     pub second: u32,

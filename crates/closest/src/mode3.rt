@@ -14,7 +14,7 @@ use palette::palettes::{WEIGHTS_2, ends_shown, rows};
 use search::four::search4;
 use search::least::least;
 
-// The least key of each pixel at given p_bits. Requires endpoints within the mode's width, and sixteen pixels.
+// The least key of each pixel at given p-bits. Requires endpoints within the mode's width, and sixteen pixels.
 // The palettes are made by `ends_shown` and `rows`, which the compiler puts in line, and not by `Mode3::palettes`, which it would call.
 fn least_keys(ends: [Rgb; 4], p: u8, px: &[u8], mask: u32) -> [u32; 16]
     requires stored { Stored mode3 ends }
@@ -28,7 +28,7 @@ fn least_keys(ends: [Rgb; 4], p: u8, px: &[u8], mask: u32) -> [u32; 16]
     least(&columns)
 }
 
-// The nearest colours of the pixels at given p_bits. Requires the same.
+// The nearest colours of the pixels at given p-bits. Requires the same.
 pub fn closest_rgb(ends: [Rgb; 4], p: u8, px: &[u8], mask: u32) -> Found
     requires stored { Stored mode3 ends }
     requires sixteen { length px.now ≡ 48 }

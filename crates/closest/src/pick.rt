@@ -3,8 +3,8 @@ ghost use Rattle.std.specs.Prelude.{◌≡◌, ◌+◌, ◌≤◌};
 ghost use Rattle.lists.specs.Tests.{pick};
 ghost use Rattle.closest.specs.Pick.{mixed};
 
-// The indices as one number with the first lowest, the raised distances in sum, and the p_bits.
-#[derive(Drop)]
+// The indices as one number with the first lowest, the raised distances in sum, and the p-bits.
+#[derive(Clone, Copy)]
 pub struct Picked {
     pub indexes: u64,
     pub sum: u32,

@@ -1,4 +1,6 @@
 // The boxes around the colours of both subsets.
+#![tactic(auto)]
+
 ghost use Rattle.std.specs.Prelude.{◌≡◌, map, ◌*◌, ◌%◌, ◌<◌, min, max, eqb, length};
 ghost use Rattle.lists.specs.Tests.{pick};
 ghost use Rattle.lists.specs.Rows.{up_from};
@@ -9,7 +11,7 @@ use bptc::Rgb;
 use palette::pixels::pixel_at;
 
 // The corners of a box of colours: the least and the greatest of each channel.
-#[derive(Drop)]
+#[derive(Clone, Copy)]
 pub struct Bounds {
     pub low: Rgb,
     pub high: Rgb,
@@ -52,7 +54,7 @@ fn widened(bounds: Bounds, c: Rgb, outside: u8) -> Bounds
 }
 
 // The channels of sixteen pixels, each channel by itself.
-#[derive(Drop)]
+#[derive(Clone, Copy)]
 pub struct Planes {
     pub r: [u8; 16],
     pub g: [u8; 16],
@@ -92,7 +94,7 @@ fn marks(mask: u16) -> [u8; 16]
 }
 
 // The boxes around both subsets' colours.
-#[derive(Drop)]
+#[derive(Clone, Copy)]
 pub struct Boxes {
     pub first: Bounds,
     pub second: Bounds,

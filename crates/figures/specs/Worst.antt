@@ -1,5 +1,5 @@
 -- The worst blocks, as keys in order.
-use Rattle.std.specs.Prelude.{ℕ, suc, ◌+◌, ◌-◌, ◌*◌, ◌/◌, ◌%◌, ◌≤◌, ◌<◌, min, max, ◌≡◌, List, [], ◌∷◌, ◌⊎◌, ltb, eqb, length, get_or, take, replicate}
+use Rattle.std.specs.Prelude.{ℕ, suc, ◌+◌, ◌-◌, ◌*◌, ◌/◌, ◌%◌, ◌≤◌, ◌<◌, min, max, ◌≡◌, List, [], ◌∷◌, ◌⊎◌, eqb, length, get_or, take, replicate}
 use Rattle.lists.specs.Tests.{pick}
 
 -- the key of a block: 32 bits of its error, 24 of its number counted down, a bit of its mode, 6 of its partition, and 1 more

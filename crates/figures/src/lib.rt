@@ -1,4 +1,6 @@
 // The figures of a plate: the errors of its blocks, their number, their sum and the greatest.
+#![tactic(auto)]
+
 ghost use Rattle.std.specs.Prelude.{◌≡◌, ◌+◌, ◌*◌, ◌<◌, ◌≤◌, length};
 ghost use Rattle.figures.specs.Figures.{none_yet, counted_of, counted_all};
 
@@ -8,7 +10,7 @@ pub mod shade;
 pub mod worst;
 
 // How many blocks, the sum of their errors, the greatest error, and the number of the first block that has it.
-#[derive(Drop)]
+#[derive(Clone, Copy)]
 pub struct Figures {
     pub blocks: u64,
     pub total: u64,

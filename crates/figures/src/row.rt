@@ -5,7 +5,7 @@ ghost use Rattle.figures.specs.Row.{measured_at, errors_of, shown_of, further, r
 use block::{Measured, measure, read};
 
 // Where the first block stands that is declined, and its refusal; refusal 0 and the number of blocks where none is.
-#[derive(Drop)]
+#[derive(Clone, Copy)]
 pub struct Row {
     pub refusal: u8,
     pub at: usize,

@@ -1,4 +1,4 @@
--- What the search gives for a candidate is what finishing packs: its indices, p_bits and error.
+-- What the search gives for a candidate is what finishing packs: its indices, p-bits and error.
 use mathlib.Core.Path.{◌≡◌, refl, ap, ap₂, ◌∙◌}
 use Prim.Native.Nat.{ℕ, ◌*◌, ◌^◌, ◌<◌}
 use mathlib.Core.List.{List, map}

@@ -46,7 +46,7 @@ module _ (m : Mode) (law : Lawful m) (part : ℕ) (ends : List Rgb) where
       )
 
   module _ (cs : List Rgb) where
-    -- at fixed p_bits
+    -- at fixed p-bits
     pub fixed-picked : (p : ℕ) → joined_bits m p p ≡ p →
         ◌≡◌ {A = Picked} (record { indexes = indexes_in m ends p (mask_of part) cs; sum = over_pixels (raised_in m ends p (mask_of part) cs); p = p }) (picked_for m part ends (Fixed p) cs)
     unfolding picked_for chosen_bits
@@ -59,7 +59,7 @@ best_of_two f x = strict (f 0) (f x) 0 x ∙ sym (least-next f 0 x [] ∙ least-
 
 -- mode 1: what is found at 0 and at 3
 module _ (part : ℕ) (ends cs : List Rgb) (a b : Found) (first : a ≡ found_at mode1 ends 0 (mask_of part) cs) (next : b ≡ found_at mode1 ends 3 (mask_of part) cs) where
-  -- what subset s has at p_bits
+  -- what subset s has at p-bits
   abbrev sum_at : ℕ → ℕ → ℕ
   sum_at s p = over mode1 part ends cs s p
 

@@ -34,6 +34,7 @@ by_three f (suc k) =
 abbrev pub lack_at : List ℕ → ℕ → ℕ
 lack_at px j = (255 - get_or px j 0) * (255 - get_or px j 0)
 
+-- of one byte: the square of what it lacks, and what it is raised by
 channel : (x : ℕ) → x < 256 → (255 - x) * (255 - x) + x * (510 - x) ≡ 65025
 channel x h = omega (arith, channel-sum x 255 h (omega arith), sq_up x 255 (omega arith))
 
@@ -42,12 +43,14 @@ module _ (px : List ℕ) (bytes : Bytes px) (long : length px ≡ 48) where
   abbrev pixel_lack : ℕ → ℕ
   pixel_lack i = lack_at px (i * 3) + lack_at px (i * 3 + 1) + lack_at px (i * 3 + 2)
 
+  -- the sum of both for a pixel
   pixel-sum : (i : ℕ) → i < 16 → pixel_lack i + raised (get_or (colours_of px) i black) ≡ 195075
   unfolding raised
   pixel-sum i h =
       rw (colour-at px i (omega arith))
       (omega (arith, channel (get_or px (i * 3) 0) (byte_lt px bytes (i * 3)), channel (get_or px (i * 3 + 1) 0) (byte_lt px bytes (i * 3 + 1)), channel (get_or px (i * 3 + 2) 0) (byte_lt px bytes (i * 3 + 2))))
 
+  -- the sum over bytes is the sum over pixels
   by_pixels : sum_to (lack_at px) 48 ≡ over_pixels pixel_lack
   unfolding over_pixels
   by_pixels = by_three (lack_at px) 16

@@ -1,4 +1,4 @@
--- What the search gives for a candidate: the nearest indices, their error and the p_bits.
+-- What the search gives for a candidate: the nearest indices, their error and the p-bits.
 use Rattle.std.specs.Prelude.{ℕ, ◌+◌, List}
 use Rattle.bptc.specs.declared.Rgb.{Rgb}
 use Rattle.bptc.specs.Mode.{Mode}
@@ -9,7 +9,7 @@ use Rattle.bptc_block.specs.Finish.{bits_in, chosen_bits}
 use Rattle.closest.specs.Found.{indexes_in}
 use Rattle.finishing.specs.declared.Indices.{Indices}
 
--- the indices at the p_bits that finishing gives, the summed errors of both subsets, and those p_bits
+-- the indices at the p-bits that finishing gives, the summed errors of both subsets, and those p-bits
 unfoldable pub nearest_for : Mode → ℕ → List Rgb → PBits → List Rgb → Indices
 nearest_for m part ends ps cs =
     record {

@@ -1,4 +1,6 @@
-// The nearest indices of a block's pixels, their error and the p_bits, in either mode and at p_bits that are fixed or free.
+// The nearest indices of a block's pixels, their error and the p-bits, in either mode and at p-bits that are fixed or free.
+#![tactic(auto)]
+
 ghost use Rattle.std.specs.Prelude.{◌≡◌, ◌<◌, length};
 ghost use Rattle.bptc.specs.Mode.{mode_numbered};
 ghost use Rattle.bptc.specs.Colour.{colours_of};
@@ -18,15 +20,15 @@ mod error;
 mod pick;
 pub mod words;
 
-// The nearest index of every pixel, as one number with the first lowest, the error of both subsets, and the p_bits.
-#[derive(Drop)]
+// The nearest index of every pixel, as one number with the first lowest, the error of both subsets, and the p-bits.
+#[derive(Clone, Copy)]
 pub struct Indices {
     pub indexes: u64,
     pub error: u32,
     pub p: u8,
 }
 
-// The search by a mode's number, 1 and else 3, at fixed p_bits. Requires endpoints within the mode's width, and sixteen pixels.
+// The search by a mode's number, 1 and else 3, at fixed p-bits. Requires endpoints within the mode's width, and sixteen pixels.
 fn fixed(mode: u8, ends: [Rgb; 4], p: u8, px: &[u8], partition: usize) -> Picked
     requires stored { Stored (mode_numbered mode) ends }
     requires sixteen { length px.now ≡ 48 }
@@ -38,7 +40,7 @@ fn fixed(mode: u8, ends: [Rgb; 4], p: u8, px: &[u8], partition: usize) -> Picked
     }
 }
 
-// At free p_bits. Requires the same, and a partition of the table.
+// At free p-bits. Requires the same, and a partition of the table.
 fn free(mode: u8, ends: [Rgb; 4], px: &[u8], partition: usize) -> Picked
     requires stored { Stored (mode_numbered mode) ends }
     requires sixteen { length px.now ≡ 48 }
@@ -51,7 +53,7 @@ fn free(mode: u8, ends: [Rgb; 4], px: &[u8], partition: usize) -> Picked
     }
 }
 
-// At p_bits that are fixed or free. Requires the same.
+// At p-bits that are fixed or free. Requires the same.
 fn picked(mode: u8, ends: [Rgb; 4], p: PBits, px: &[u8], partition: usize) -> Picked
     requires stored { Stored (mode_numbered mode) ends }
     requires sixteen { length px.now ≡ 48 }
@@ -64,7 +66,7 @@ fn picked(mode: u8, ends: [Rgb; 4], p: PBits, px: &[u8], partition: usize) -> Pi
     }
 }
 
-// The indices, the error and the p_bits of a candidate in range. Requires the same.
+// The indices, the error and the p-bits of a candidate in range. Requires the same.
 pub fn nearest(mode: u8, ends: [Rgb; 4], p: PBits, px: &[u8], partition: usize) -> Indices
     requires stored { Stored (mode_numbered mode) ends }
     requires sixteen { length px.now ≡ 48 }

@@ -1,4 +1,4 @@
-// The search at fixed p_bits, or in mode 1 at the first p_bits of least error.
+// The search at fixed p-bits, or in mode 1 at the first p-bits of least error.
 ghost use Rattle.std.specs.Prelude.{◌≡◌, ◌<◌, length};
 ghost use Rattle.bptc.specs.Mode.{mode1, mode3};
 ghost use Rattle.bptc.specs.Colour.{colours_of};
@@ -13,7 +13,7 @@ use closest::{mode1, mode3};
 use palette::Mode1;
 use partitions::{entry3, mask};
 
-// Mode 1 at fixed p_bits. Requires endpoints within the mode's width, and sixteen pixels.
+// Mode 1 at fixed p-bits. Requires endpoints within the mode's width, and sixteen pixels.
 // `closest_rgb`, which the compiler does not put in line here, would sum the distances of subset 1 too.
 pub(crate) fn fixed1(ends: [Rgb; 4], p: u8, px: &[u8], partition: usize) -> Picked
     requires stored { Stored mode1 ends }
@@ -28,7 +28,7 @@ pub(crate) fn fixed1(ends: [Rgb; 4], p: u8, px: &[u8], partition: usize) -> Pick
     }
 }
 
-// Mode 3 at fixed p_bits. Requires the same.
+// Mode 3 at fixed p-bits. Requires the same.
 pub(crate) fn fixed3(ends: [Rgb; 4], p: u8, px: &[u8], partition: usize) -> Picked
     requires stored { Stored mode3 ends }
     requires sixteen { length px.now ≡ 48 }
@@ -42,7 +42,7 @@ pub(crate) fn fixed3(ends: [Rgb; 4], p: u8, px: &[u8], partition: usize) -> Pick
     }
 }
 
-// Mode 1 at free p_bits: each subset by itself keeps the first of least error. Requires the same, and a partition of the table.
+// Mode 1 at free p-bits: each subset by itself keeps the first of least error. Requires the same, and a partition of the table.
 pub(crate) fn free1(ends: [Rgb; 4], px: &[u8], partition: usize) -> Picked
     requires stored { Stored mode1 ends }
     requires sixteen { length px.now ≡ 48 }

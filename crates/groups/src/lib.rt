@@ -1,5 +1,7 @@
 // Cutting a picture into groups of 4 by 4 pixels, and putting groups back, a band of at most four rows at a time.
 // Pixels stand row by row, three bytes each: red, green, blue. A group has sixteen, so 48 bytes.
+#![tactic(auto)]
+
 ghost use Rattle.std.specs.Prelude.{◌≡◌, ◌+◌, ◌*◌, ◌<◌, ◌≤◌, length};
 ghost use Rattle.groups.specs.Cutting.{groups_across, rows_in, inside, source_of, place_of, groups_of, picture_of};
 

@@ -3,14 +3,13 @@ use Prim.Native.Nat.{ℕ, ◌+◌, ◌-◌, ◌*◌, ◌≤◌, ◌<◌}
 use native.Mathlib.Omega.{arith}
 use mathlib.Core.Path.{◌≡◌, refl, ap, ap₂, ◌∙◌}
 use mathlib.Core.Bool.{Bool, true, false}
-use mathlib.Core.List.{◌++◌, map}
+use mathlib.Core.List.{◌++◌}
 use lib.Dec.{ltb}
 use lib.ListN.{get_or, length, length-append, length-map}
 use borrow.Author.Tests.{ltb-true, ltb-false}
-use Rattle.lists.specs.Rows.{up_from}
 use Rattle.lists.proofs.Rows.{length-up_from, get_or-each, each_front, each_past, each_same}
 use Rattle.bptc.specs.declared.Rgb.{Rgb}
-use Rattle.bptc.specs.Colour.{Below, dot, norm}
+use Rattle.bptc.specs.Colour.{Below, dot}
 use Rattle.keys.specs.Keys.{own_of, step_of, sum_key, key_at, Steps}
 use Rattle.key_numbers.specs.Numbers.{numbers_of}
 use Rattle.keys.proofs.KeySums.{norm-byte}

@@ -1,5 +1,7 @@
 // The search's numbers, made from a block's palettes. They stand in one array: for each channel what a step of the pixel's adds to the
 // key of each colour, and then the rest of each key.
+#![tactic(auto)]
+
 ghost use Rattle.std.specs.Prelude.{◌≡◌, ◌<◌};
 ghost use Rattle.bptc.specs.Pixels.{pixel_of};
 ghost use Rattle.keys.specs.Keys.{step_of, own_of};

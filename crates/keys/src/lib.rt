@@ -1,2 +1,4 @@
 // Keys, by which the search compares colours.
+#![tactic(auto)]
+
 pub mod key;

@@ -51,14 +51,14 @@ each-suc {B} f k =
 
 module _ {ℓ} {B : Type ℓ} (d : B) where
   -- a function of a list, at place i
-  pub get_d_map {κ} : {A : Type κ} (e : A) (f : A → B) (l : List A) (i : ℕ) → i < length l → get_or (map f l) i d ≡ f (get_or l i e)
-  get_d_map e f [] i h = absurd (not-suc-le-zero h)
-  get_d_map e f (x ∷ l) zero h = refl
-  get_d_map e f (x ∷ l) (suc i) h = get_d_map e f l i (le_of_suc-le-suc h)
+  pub get_or-map {κ} : {A : Type κ} (e : A) (f : A → B) (l : List A) (i : ℕ) → i < length l → get_or (map f l) i d ≡ f (get_or l i e)
+  get_or-map e f [] i h = absurd (not-suc-le-zero h)
+  get_or-map e f (x ∷ l) zero h = refl
+  get_or-map e f (x ∷ l) (suc i) h = get_or-map e f l i (le_of_suc-le-suc h)
 
   -- what stands at place i of a function's row
   pub get_or-each : (f : ℕ → B) (k i : ℕ) → i < k → get_or (map f (up_from 0 k)) i d ≡ f i
-  get_or-each f k i h = get_d_map 0 f (up_from 0 k) i (rw length-up_from h) ∙ ap f (get_or-up_from k 0 i 0 h ∙ zero-add i)
+  get_or-each f k i h = get_or-map 0 f (up_from 0 k) i (rw length-up_from h) ∙ ap f (get_or-up_from k 0 i 0 h ∙ zero-add i)
 
   -- and with another list after it
   pub each_front : (f : ℕ → B) (k i : ℕ) (rest : List B) → i < k → get_or (map f (up_from 0 k) ++ rest) i d ≡ f i

@@ -1,4 +1,4 @@
--- The first of least error: the rule by which indices, p_bits and candidates are chosen.
+-- The first of least error: the rule by which indices, p-bits and candidates are chosen.
 use Rattle.std.specs.Prelude.{ℕ, ◌<◌, ◌≤◌, ◌≡◌, leb}
 use mathlib.Core.List.{List, [], ◌∷◌, ◌++◌, Memᴰ}
 use Rattle.lists.specs.Tests.{pick}

@@ -1,4 +1,6 @@
 // The lowest layer of code for BC7 blocks in modes 1 and 3: shown colours, palettes and distances.
+#![tactic(auto)]
+
 pub use bptc::{Colour, Rgb};
 
 pub mod colour;
@@ -6,14 +8,14 @@ pub mod palettes;
 pub mod pixels;
 
 // Mode 1: one p-bit for each subset.
-#[derive(Drop)]
+#[derive(Clone, Copy)]
 pub struct Mode1;
 
 // Mode 3: one p-bit for each endpoint.
-#[derive(Drop)]
+#[derive(Clone, Copy)]
 pub struct Mode3;
 
-// The bits of a stored channel, the bits of an index, the number of p_bits, the colours of a palette, and the greatest channel, p_bits
+// The bits of a stored channel, the bits of an index, the number of p-bits, the colours of a palette, and the greatest channel, p-bits
 // and index.
 impl Mode1 {
     pub const CHANNEL_BITS: u32 = 6;

@@ -1,4 +1,4 @@
-// The palettes of a block, from its stored endpoints and p_bits.
+// The palettes of a block, from its stored endpoints and p-bits.
 ghost use Rattle.std.specs.Prelude.{◌≡◌, ℕ, ◌^◌, ◌<◌, ◌≤◌, map, get_or};
 ghost use Rattle.lists.specs.Rows.{up_from};
 ghost use Rattle.bptc.specs.Mode.{mode1, mode3, mode_numbered};

@@ -1,5 +1,7 @@
 // The table of partitions into two subsets, PARTITION_SET_2. A `match` is a table in the program; a constant array would be copied to
 // the stack at each look-up.
+#![tactic(auto)]
+
 ghost use Rattle.std.specs.Prelude.{◌≡◌, ◌<◌};
 ghost use Rattle.bptc.specs.Partition.{mask_of, subset_of, anchor_of, size_of, entry_of};
 

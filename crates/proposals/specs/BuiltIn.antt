@@ -17,7 +17,7 @@ step_of mode = pick (eqb mode 1) 4 2
 abbrev pub stored_in : ℕ → Rgb → Rgb
 stored_in mode c = each (λ (x : ℕ). x / step_of mode) c
 
--- the proposal between the corners of the two subsets' boxes, with its p_bits free
+-- the proposal between the corners of the two subsets' boxes, with its p-bits free
 unfoldable pub between : ℕ → ℕ → Bounds → Bounds → Candidate
 between mode partition first second =
     record {

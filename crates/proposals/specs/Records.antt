@@ -17,7 +17,7 @@ endpoints_in bs =
     endpoint_in (take 3 bs)
     ∷ (endpoint_in (take 3 (drop 3 bs)) ∷ (endpoint_in (take 3 (drop 6 bs)) ∷ (endpoint_in (take 3 (drop 9 bs)) ∷ [])))
 
--- a candidate: mode, partition, endpoints, p_bits
+-- a candidate: mode, partition, endpoints, p-bits
 unfoldable pub candidate_in : List ℕ → Candidate
 candidate_in bs =
     record {

@@ -30,7 +30,7 @@ fn divided(c: Rgb, step: u8) -> Rgb
     }
 }
 
-// The proposal between the corners of the two subsets' boxes, with its p_bits free.
+// The proposal between the corners of the two subsets' boxes, with its p-bits free.
 fn proposal(mode: u8, partition: u8, first: Bounds, second: Bounds) -> Candidate
     ensures { result ≡ between mode partition first second }
 {

@@ -1,4 +1,6 @@
 // Candidates for blocks, from records of sixteen bytes or from the box around each subset's colours, and choosing among them.
+#![tactic(auto)]
+
 ghost use Rattle.std.specs.Prelude.{◌≡◌, map, ◌*◌, length};
 ghost use Rattle.chooser.specs.OfferCall.{offer_refusal};
 ghost use Rattle.chooser.specs.Calls.{after};

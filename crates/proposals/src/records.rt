@@ -40,7 +40,7 @@ fn p_bits(p: u8, free: u8) -> PBits
     }
 }
 
-// The candidate of sixteen bytes: mode, partition, endpoints, p_bits, and whether these are free.
+// The candidate of sixteen bytes: mode, partition, endpoints, p-bits, and whether these are free.
 pub fn candidate(bytes: &[u8]) -> Candidate
     requires { length bytes.now ≡ 16 }
     ensures { result ≡ candidate_in bytes.now }

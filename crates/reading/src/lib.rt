@@ -1,4 +1,6 @@
 // The fields of a block, read by bit place, and numbers of four bytes.
+#![tactic(auto)]
+
 ghost use Rattle.std.specs.Prelude.{◌≡◌, ◌+◌, ◌*◌, ◌/◌, ◌%◌, ◌<◌, ◌≤◌, get_or, length, take, drop};
 ghost use Rattle.lists.specs.Rows.{sum};
 ghost use Rattle.lists.specs.Bits.{field_at, split};
@@ -50,7 +52,7 @@ fn channel_bits(mode: u8) -> u32
     }
 }
 
-// The number of p_bits.
+// The number of p-bits.
 fn p_bits(mode: u8) -> u32
     ensures { (result ≡ (mode_numbered mode).p_bits) × (result ≤ 4) }
 {

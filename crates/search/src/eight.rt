@@ -9,7 +9,7 @@ use keys::key::{key_at, lesser};
 use palette::pixels::pixel_at;
 
 // The keys of two pixels, each with the eight colours of its row.
-#[derive(Drop)]
+#[derive(Clone, Copy)]
 pub struct TwoKeys {
     pub x: [u32; 8],
     pub y: [u32; 8],

@@ -1,9 +1,9 @@
 -- Laws of texts that are put into an empty buffer piece by piece.
 use Prim.Native.Nat.{ℕ, ◌/◌, ◌^◌, ◌<◌, ◌≤◌}
 use native.Mathlib.Omega.{arith}
-use mathlib.Core.Path.{◌≡◌, sym, ap, ◌∙◌}
+use mathlib.Core.Path.{◌≡◌}
 use mathlib.Core.List.{List, [], ◌∷◌}
-use lib.ListN.{length, take, length-append}
+use lib.ListN.{length, length-append}
 use Rattle.text.specs.Line.{Put, decimal_of, places_of, thousandths_of}
 use Rattle.text.specs.Ppm.{header_text}
 use Rattle.text.proofs.PutText.{Holds, holds-none, holds-put}

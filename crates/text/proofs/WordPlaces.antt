@@ -7,6 +7,7 @@ use mathlib.Core.List.{List, []}
 use lib.Dec.{eqb}
 use lib.ListN.{length, get_or, drop, drop_of_length-le}
 use lib.Seq.{drop-cons}
+use borrow.Author.Tests.{eq-eqb, ne_eqb}
 use Rattle.lists.specs.Tests.{pick}
 use Rattle.text.specs.Words.{words_in, first_word, word_from}
 
@@ -14,6 +15,16 @@ use Rattle.text.specs.Words.{words_in, first_word, word_from}
 pub words-next : (line : List ℕ) (at : ℕ) → at < length line →
     words_in (drop at line) ≡ pick (eqb (get_or line at 0) 0) (suc (words_in (drop (at + 1) line))) (words_in (drop (at + 1) line))
 words-next line at h = rw (add-one, drop-cons line at 0 h)
+
+-- a byte of 0 ends one more
+pub words_ended : (line : List ℕ) (at : ℕ) → at < length line → get_or line at 0 ≡ 0 →
+    words_in (drop at line) ≡ suc (words_in (drop (at + 1) line))
+words_ended line at h e = rw (eq-eqb _ _ e) at (words-next line at h)
+
+-- and any other byte none
+pub words_kept : (line : List ℕ) (at : ℕ) → at < length line → (get_or line at 0 ≡ 0 → ⊥) →
+    words_in (drop at line) ≡ words_in (drop (at + 1) line)
+words_kept line at h e = rw (ne_eqb _ _ e) at (words-next line at h)
 
 -- a later word, by the byte at its place
 pub word_next : (line : List ℕ) (at k : ℕ) → at < length line → 0 < k →

@@ -4,7 +4,7 @@ ghost use Rattle.text.specs.Runs.{run_end};
 ghost use Rattle.text.specs.Decimal.{is_digit, digits_in, value_of, number_in};
 
 // What a text stands for.
-#[derive(Drop)]
+#[derive(Clone, Copy)]
 pub enum Parsed {
     Number(u64),
     Wrong,

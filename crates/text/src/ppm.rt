@@ -11,7 +11,7 @@ use crate::decimal::{digits_end, value};
 use crate::line::{put, put_decimal};
 
 // A number of a header: whether there is one, its value, 0 where it has more than nine digits, and the place behind it.
-#[derive(Drop)]
+#[derive(Clone, Copy)]
 pub(crate) struct Field {
     pub found: bool,
     pub value: usize,
@@ -99,7 +99,7 @@ fn field_at(bytes: &[u8], from: usize) -> Field
 }
 
 // Whether a width or a height is 1 to 16384.
-fn size_fits_lem(n: usize) -> bool
+fn size_fits(n: usize) -> bool
     ensures { result ≡ size_fits n }
 {
     if n < 1 { false } else { n <= 16384 }
@@ -131,11 +131,7 @@ fn size_mistake(size: Field, missing: u8, outside: u8) -> u8
     if !size.found {
         return missing;
     }
-    if size_fits_lem(size.value) {
-        0
-    } else {
-        outside
-    }
+    if size_fits(size.value) { 0 } else { outside }
 }
 
 // The mistake of the maxval: that it is missing, that it is not 255, or that no white space is behind it.

@@ -1,0 +1,9 @@
+-- `bc7_c::parts::head` meets its contract.
+use Rattle.bptc.specs.Colour.{bytes_of}
+use Rattle.bc7_c.proofs.PartBytes.{head-listed}
+use borrow.Author.Rules.{rules}
+use Rattle.bc7_c.proofs.parts.head.Goals as goal
+
+pub returns : goal.returns
+unfolding bytes_of
+returns c = head-listed c.args.reading (search rules)

@@ -1,0 +1,16 @@
+-- `block::colours::colours` meets its contract. The invariant: the first i colours are written.
+use Prim.Native.Nat.{ℕ, ◌-◌, ◌≤◌}
+use mathlib.Core.Path.{◌≡◌}
+use lib.ListN.{get_or, replicate}
+use Rattle.lists.specs.Rows.{written}
+use Rattle.lists.specs.Digits.{bit}
+use Rattle.bptc.specs.Colour.{black}
+use Rattle.bptc.specs.Pixels.{pixel_of}
+use Rattle.bptc.specs.Palette.{word_at}
+use Rattle.block.proofs.colours.colours.Given as goal
+
+abbrev pub invariant-loop-i : goal.invariant-loop-i
+invariant-loop-i l = (l.i ≤ 16) × (l.out ≡ written (λ (i : ℕ). pixel_of (word_at l.rows (bit l.subsets i) (get_or l.indices i 0))) l.i (replicate 16 black))
+
+abbrev pub decreases-loop-i : goal.decreases-loop-i
+decreases-loop-i l = 16 - l.i

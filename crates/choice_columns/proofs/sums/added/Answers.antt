@@ -1,0 +1,15 @@
+-- `choice_columns::sums::added` meets its contract.
+use Rattle.std.proofs.Common.{arith}
+use Rattle.choice_columns.proofs.sums.added.Goals as goal
+
+pub overflow_add-result : goal.overflow_add-result
+overflow_add-result c = omega (arith, c.requires.room 0)
+
+pub overflow_add-result-2 : goal.overflow_add-result-2
+overflow_add-result-2 c = omega (arith, c.requires.room 1)
+
+pub overflow_add-result-3 : goal.overflow_add-result-3
+overflow_add-result-3 c = omega (arith, c.requires.room 2)
+
+pub overflow_add-result-4 : goal.overflow_add-result-4
+overflow_add-result-4 c = omega (arith, c.requires.room 3)

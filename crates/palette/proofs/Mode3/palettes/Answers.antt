@@ -1,0 +1,20 @@
+-- `palette::Mode3::palettes` meets its contract: its weights are four times the mode's.
+use native.Mathlib.Omega.{arith}
+use mathlib.Core.Path.{ap, ◌∙◌}
+use borrow.Author.Rules.{rules}
+use Rattle.bptc.specs.Mode.{mode3, largest}
+use Rattle.bptc.specs.Shown.{end_shown}
+use Rattle.bptc.specs.Palette.{row_weights, blended_rows, coloured}
+use Rattle.bptc.proofs.Modes.{shades3}
+use Rattle.bptc.proofs.Shading.{row_light, palettes_blended}
+use Rattle.palette.proofs.Mode3.palettes.Goals as goal
+
+pub rows-requires : goal.rows-requires
+unfolding largest
+rows-requires c = record { few = search rules; light = row_light mode3 shades3 (omega arith) }
+
+pub returns : goal.returns
+unfolding largest end_shown
+returns c =
+    c.rows.ensures
+    ∙ ap coloured (ap (blended_rows (row_weights mode3) 4) c.ends_shown-shown.ensures ∙ palettes_blended mode3 shades3 (omega arith) c.args.ends c.args.p)

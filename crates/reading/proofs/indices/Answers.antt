@@ -1,0 +1,54 @@
+-- `reading::indices` meets its contract. The invariant: the first i indices are written, and the next one begins at `next`.
+use Prim.Native.Nat.{◌+◌, ◌<◌}
+use native.Mathlib.Omega.{arith}
+use mathlib.Core.Path.{◌≡◌, refl, sym, ap₂, ◌∙◌}
+use lib.ListN.{get_or, drop, replicate}
+use borrow.Author.Rules.{rules}
+use Rattle.lists.specs.Rows.{written}
+use Rattle.lists.specs.Bits.{split, field_at}
+use Rattle.lists.specs.Bytes.{number}
+use Rattle.lists.proofs.Rows.{written_next, written_all, listed}
+use Rattle.bptc.specs.Mode.{mode_numbered}
+use Rattle.bptc_block.specs.Fields.{index_width, widths}
+use Rattle.bptc_block.proofs.Packed.{indices-sixteen}
+use Rattle.bptc_block.proofs.Places.{place_inside, next-index, index_at}
+use Rattle.bptc_block.proofs.Modes.{lawful}
+use Rattle.reading.proofs.indices.Goals as goal
+
+pub loop-i-init : goal.loop-i-init
+unfolding written
+loop-i-init c = (search rules, search rules, refl)
+
+pub field-requires : goal.field-requires
+field-requires c =
+    record {
+      inside = omega (arith, place_inside (mode_numbered c.args.mode) c.args.partition (lawful c.args.mode).filling (15 + c.loop-i.i) (search rules));
+      few = search rules;
+    }
+
+pub overflow_add-next : goal.overflow_add-next
+overflow_add-next c =
+    omega (arith, place_inside (mode_numbered c.args.mode) c.args.partition (lawful c.args.mode).filling (15 + c.loop-i.i) (search rules))
+
+pub loop-i-preserved : goal.loop-i-preserved
+unfolding index_width
+loop-i-preserved c =
+    let a = c.args in
+    let at = c.loop-i in
+    let m = mode_numbered a.mode in
+    let n = number a.block.now in
+    let h : at.i < 16 = omega arith in
+    let width : c.index_width-width.result ≡ index_width m a.partition at.i = rw (← c.index_bits-bits.ensures.0, ← c.anchor-place.ensures.0) c.index_width-width.ensures.0 in
+    let value : c.field.result ≡ get_or (drop 15 (split (widths m a.partition) n)) at.i 0 = c.field.ensures ∙ ap₂ (field_at n) at.invariant.1 width ∙ sym (index_at m a.partition n at.i h) in (
+      search rules,
+      ap₂ ◌+◌ at.invariant.1 width ∙ sym (next-index m a.partition at.i h),
+      rw (at.invariant.2, value) (written_next 0 _ (replicate 16 0) at.i h),
+    )
+
+pub returns : goal.returns
+returns c =
+    let a = c.args in
+    let e : c.loop-i.i ≡ 16 = omega arith in
+    rw e at c.loop-i.invariant.2
+    ∙ written_all 0 _ (replicate 16 0) 16 refl
+    ∙ listed 0 (drop 15 (split (widths (mode_numbered a.mode) a.partition) (number a.block.now))) 16 (indices-sixteen (mode_numbered a.mode) a.partition (number a.block.now))
