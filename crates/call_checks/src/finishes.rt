@@ -2,6 +2,7 @@
 use crate::inputs::{ANY, changed, draw, fill, level, of_kind};
 use crate::out::{line, put, put_byte, put_part, put_word, say};
 use block::{Candidate, PBits, Rgb};
+use std::io;
 
 // The partitions of a mode.
 const PARTITIONS: u8 = 64;
@@ -36,20 +37,20 @@ pub(crate) fn ends_with(first: u8, last: u8) -> [Rgb; 4] {
 }
 
 // Finishes pixels, and writes the answer, what measure gives for the block, and the block.
-fn put_finished(label: &[u8], pixels: &[u8], c: Candidate) {
+fn put_finished(rt: &impl Print, label: &[u8], pixels: &[u8], c: Candidate) -> io::Result<()> {
     let mut part = [0u8; 16];
     let f = block::finish(pixels, c, &mut part);
     let m = block::measure(&part, pixels);
-    say(label);
-    put_byte(c.mode);
-    put_byte(c.partition);
-    put_byte(f.refusal);
-    put_word(f.error);
-    say(b" measured");
-    put_byte(m.refusal);
-    put_word(m.error);
-    put_part(&part);
-    line();
+    say(rt, label)?;
+    put_byte(rt, c.mode)?;
+    put_byte(rt, c.partition)?;
+    put_byte(rt, f.refusal)?;
+    put_word(rt, f.error)?;
+    say(rt, b" measured")?;
+    put_byte(rt, m.refusal)?;
+    put_word(rt, m.error)?;
+    put_part(rt, &part)?;
+    line(rt)
 }
 
 // Sixteen pixels of red 2, green 4 and blue 8.
@@ -65,7 +66,7 @@ fn coloured() -> [u8; 48] {
 }
 
 // P1 to P7, and pixels with three different channels.
-pub(crate) fn put_worked() {
+pub(crate) fn put_worked(rt: &impl Print) -> io::Result<()> {
     let black = [0u8; 48];
     let white = [255u8; 48];
     let ones = [1u8; 48];
@@ -73,32 +74,44 @@ pub(crate) fn put_worked() {
     let zero = level(0);
     let top1 = ends_with(63, 0);
     let top3 = ends_with(127, 0);
-    put_finished(b"P1", &black, proposal(1, 0, zero, PBits::Fixed(0)));
-    put_finished(b"P2", &black, proposal(3, 0, zero, PBits::Fixed(0)));
-    put_finished(b"P3", &white, proposal(1, 0, zero, PBits::Fixed(0)));
-    put_finished(b"P4", &black, proposal(1, 0, top1, PBits::Fixed(0)));
-    put_finished(b"P5", &black, proposal(3, 0, top3, PBits::Fixed(1)));
-    put_finished(b"P6", &twos, proposal(1, 0, zero, PBits::Free));
-    put_finished(b"P7", &ones, proposal(1, 0, zero, PBits::Free));
+    put_finished(rt, b"P1", &black, proposal(1, 0, zero, PBits::Fixed(0)))?;
+    put_finished(rt, b"P2", &black, proposal(3, 0, zero, PBits::Fixed(0)))?;
+    put_finished(rt, b"P3", &white, proposal(1, 0, zero, PBits::Fixed(0)))?;
+    put_finished(rt, b"P4", &black, proposal(1, 0, top1, PBits::Fixed(0)))?;
+    put_finished(rt, b"P5", &black, proposal(3, 0, top3, PBits::Fixed(1)))?;
+    put_finished(rt, b"P6", &twos, proposal(1, 0, zero, PBits::Free))?;
+    put_finished(rt, b"P7", &ones, proposal(1, 0, zero, PBits::Free))?;
     let colour = coloured();
     let own = Rgb { r: 1, g: 2, b: 4 };
-    put_finished(b"RGB", &colour, proposal(3, 0, [own; 4], PBits::Fixed(0)));
+    put_finished(
+        rt,
+        b"RGB",
+        &colour,
+        proposal(3, 0, [own; 4], PBits::Fixed(0)),
+    )
 }
 
-// Pixels of one grey, with every channel 0 and with every channel the greatest, p_bits fixed and free.
-pub(crate) fn put_grey(label: &[u8], v: u8, mode: u8, channel: u8, p: u8) {
+// Pixels of one grey, with every channel 0 and with every channel the greatest, p-bits fixed and free.
+pub(crate) fn put_grey(
+    rt: &impl Print,
+    label: &[u8],
+    v: u8,
+    mode: u8,
+    channel: u8,
+    p: u8,
+) -> io::Result<()> {
     let pixels = [v; 48];
     let zero = level(0);
     let top = level(channel);
-    put_finished(label, &pixels, proposal(mode, 0, zero, PBits::Fixed(0)));
-    put_finished(label, &pixels, proposal(mode, 0, zero, PBits::Free));
-    put_finished(label, &pixels, proposal(mode, 0, top, PBits::Fixed(p)));
-    put_finished(label, &pixels, proposal(mode, 0, top, PBits::Free));
+    put_finished(rt, label, &pixels, proposal(mode, 0, zero, PBits::Fixed(0)))?;
+    put_finished(rt, label, &pixels, proposal(mode, 0, zero, PBits::Free))?;
+    put_finished(rt, label, &pixels, proposal(mode, 0, top, PBits::Fixed(p)))?;
+    put_finished(rt, label, &pixels, proposal(mode, 0, top, PBits::Free))
 }
 
 // Pixels of one grey in mode 3, with every channel 0: the indices that are read of the block, the answer and the block.
-// Where their p_bits differ, endpoints stored alike show two colours; of indices of one colour the lowest is taken, before the exchange.
-pub(crate) fn put_indices(v: u8, p: u8) {
+// Where their p-bits differ, endpoints stored alike show two colours; of indices of one colour the lowest is taken, before the exchange.
+pub(crate) fn put_indices(rt: &impl Print, v: u8, p: u8) -> io::Result<()> {
     let pixels = [v; 48];
     let mut part = [0u8; 16];
     let c = proposal(3, 0, level(0), PBits::Fixed(p));
@@ -106,66 +119,74 @@ pub(crate) fn put_indices(v: u8, p: u8) {
     let mut shown = [0u8; 48];
     let r = block::read(&part, &mut shown);
     let indices = r.indices;
-    say(b"indices");
-    put_part(&indices);
-    put_byte(f.refusal);
-    put_word(f.error);
-    put_part(&part);
-    line();
+    say(rt, b"indices")?;
+    put_part(rt, &indices)?;
+    put_byte(rt, f.refusal)?;
+    put_word(rt, f.error)?;
+    put_part(rt, &part)?;
+    line(rt)
 }
 
-// Black pixels but pixel 1, in mode 3 with every channel 0 and free p_bits: two choices of subset 0 have no error, and the earlier is kept.
-pub(crate) fn put_tie() {
+// Black pixels but pixel 1, in mode 3 with every channel 0 and free p-bits: two choices of subset 0 have no error, and the earlier is kept.
+pub(crate) fn put_tie(rt: &impl Print) -> io::Result<()> {
     let mut pixels = [0u8; 48];
     pixels[3] = 1;
     pixels[4] = 1;
     pixels[5] = 1;
-    put_finished(b"tie", &pixels, proposal(3, 0, level(0), PBits::Free));
+    put_finished(rt, b"tie", &pixels, proposal(3, 0, level(0), PBits::Free))
 }
 
 // A call of finish with lent parts: its answer, and the bytes that it changed. All channels are 0 but the last one of endpoint 3.
-fn put_finish(mode: u8, partition: u8, last: u8, p: u8, pixels: &[u8], part: &mut [u8]) {
+fn put_finish(
+    rt: &impl Print,
+    mode: u8,
+    partition: u8,
+    last: u8,
+    p: u8,
+    pixels: &[u8],
+    part: &mut [u8],
+) -> io::Result<()> {
     fill(part);
     let c = proposal(mode, partition, ends_with(0, last), PBits::Fixed(p));
     let f = block::finish(pixels, c, part);
-    say(b"finish");
-    put_byte(f.refusal);
-    put_word(f.error);
-    put(changed(part) as u64);
-    line();
+    say(rt, b"finish")?;
+    put_byte(rt, f.refusal)?;
+    put_word(rt, f.error)?;
+    put(rt, changed(part) as u64)?;
+    line(rt)
 }
 
 // The refusals of finish by the lengths of its parts.
-pub(crate) fn put_lengths() {
+pub(crate) fn put_lengths(rt: &impl Print) -> io::Result<()> {
     let pixels = [0u8; 48];
     let less = [0u8; 47];
     let more = [0u8; 49];
     let mut part = [0u8; 16];
     let mut short = [0u8; 15];
     let mut long = [0u8; 17];
-    put_finish(1, 0, 0, 0, &less, &mut part);
-    put_finish(2, 0, 0, 0, &more, &mut part);
-    put_finish(1, 0, 0, 0, &pixels, &mut short);
-    put_finish(2, 0, 0, 0, &pixels, &mut long);
-    put_finish(1, 0, 0, 0, &less, &mut short);
+    put_finish(rt, 1, 0, 0, 0, &less, &mut part)?;
+    put_finish(rt, 2, 0, 0, 0, &more, &mut part)?;
+    put_finish(rt, 1, 0, 0, 0, &pixels, &mut short)?;
+    put_finish(rt, 2, 0, 0, 0, &pixels, &mut long)?;
+    put_finish(rt, 1, 0, 0, 0, &less, &mut short)
 }
 
 // Those by the candidate, and the calls beside them that are not declined.
-pub(crate) fn put_numbers() {
+pub(crate) fn put_numbers(rt: &impl Print) -> io::Result<()> {
     let pixels = [0u8; 48];
     let mut part = [0u8; 16];
-    put_finish(2, 64, 0, 0, &pixels, &mut part);
-    put_finish(0, 0, 0, 0, &pixels, &mut part);
-    put_finish(255, 0, 0, 0, &pixels, &mut part);
-    put_finish(1, 64, 0, 0, &pixels, &mut part);
-    put_finish(1, 64, 64, 0, &pixels, &mut part);
-    put_finish(1, 63, 64, 4, &pixels, &mut part);
-    put_finish(3, 63, 64, 0, &pixels, &mut part);
-    put_finish(3, 63, 128, 16, &pixels, &mut part);
-    put_finish(1, 63, 63, 4, &pixels, &mut part);
-    put_finish(3, 63, 127, 16, &pixels, &mut part);
-    put_finish(1, 63, 63, 3, &pixels, &mut part);
-    put_finish(3, 63, 127, 15, &pixels, &mut part);
+    put_finish(rt, 2, 64, 0, 0, &pixels, &mut part)?;
+    put_finish(rt, 0, 0, 0, 0, &pixels, &mut part)?;
+    put_finish(rt, 255, 0, 0, 0, &pixels, &mut part)?;
+    put_finish(rt, 1, 64, 0, 0, &pixels, &mut part)?;
+    put_finish(rt, 1, 64, 64, 0, &pixels, &mut part)?;
+    put_finish(rt, 1, 63, 64, 4, &pixels, &mut part)?;
+    put_finish(rt, 3, 63, 64, 0, &pixels, &mut part)?;
+    put_finish(rt, 3, 63, 128, 16, &pixels, &mut part)?;
+    put_finish(rt, 1, 63, 63, 4, &pixels, &mut part)?;
+    put_finish(rt, 3, 63, 127, 16, &pixels, &mut part)?;
+    put_finish(rt, 1, 63, 63, 3, &pixels, &mut part)?;
+    put_finish(rt, 3, 63, 127, 15, &pixels, &mut part)
 }
 
 // The stored channel of a mode that shows nearly this byte, made one of a kind.
@@ -192,7 +213,7 @@ fn ends_near(kind: u8, mode: u8, bytes: &[u8; 13]) -> [Rgb; 4] {
     ends
 }
 
-// A drawn byte as the p_bits of a mode.
+// A drawn byte as the p-bits of a mode.
 fn p_bits(mode: u8, b: u8) -> u8 {
     match mode {
         1 => b % 4,
@@ -200,7 +221,7 @@ fn p_bits(mode: u8, b: u8) -> u8 {
     }
 }
 
-// A candidate with endpoints of a kind from the first twelve drawn bytes, and fixed p_bits from the last.
+// A candidate with endpoints of a kind from the first twelve drawn bytes, and fixed p-bits from the last.
 pub(crate) fn fixed_of(kind: u8, mode: u8, partition: u8, drawn: [u8; 13]) -> Candidate {
     let p = p_bits(mode, drawn[12]);
     proposal(
@@ -211,30 +232,31 @@ pub(crate) fn fixed_of(kind: u8, mode: u8, partition: u8, drawn: [u8; 13]) -> Ca
     )
 }
 
-// A candidate with free p_bits.
+// A candidate with free p-bits.
 pub(crate) fn freed(c: Candidate) -> Candidate {
     let ends = c.ends;
     proposal(c.mode, c.partition, ends, PBits::Free)
 }
 
-// Draws pixels and endpoints of one kind, and finishes them with fixed and with free p_bits. Gives the generator's number after them.
-fn put_drawn(mode: u8, partition: u8, seed: u64) -> u64 {
+// Draws pixels and endpoints of one kind, and finishes them with fixed and with free p-bits. Gives the generator's number after them.
+fn put_drawn(rt: &impl Print, mode: u8, partition: u8, seed: u64) -> io::Result<u64> {
     let mut pixels = [0u8; 48];
     let mut bytes = [0u8; 13];
     let middle = draw(seed, partition % 4, &mut pixels);
     let after = draw(middle, ANY, &mut bytes);
     let fixed = fixed_of(partition % 4, mode, partition, bytes);
-    put_finished(b"fixed", &pixels, fixed);
-    put_finished(b"free", &pixels, freed(fixed));
-    after
+    put_finished(rt, b"fixed", &pixels, fixed)?;
+    put_finished(rt, b"free", &pixels, freed(fixed))?;
+    Ok(after)
 }
 
 // Draws for every partition of a mode.
-pub(crate) fn put_partitions(mode: u8) {
+pub(crate) fn put_partitions(rt: &impl Print, mode: u8) -> io::Result<()> {
     let mut seed = mode as u64;
     let mut partition: u8 = 0;
     while partition < PARTITIONS {
-        seed = put_drawn(mode, partition, seed);
+        seed = put_drawn(rt, mode, partition, seed)?;
         partition += 1;
     }
+    Ok(())
 }

@@ -1,4 +1,6 @@
 // Prints what the seven calls give for worked and drawn examples; the gate holds it to the file `stdout`.
+#![tactic(auto)]
+
 mod chooses;
 mod finishes;
 mod inputs;
@@ -7,40 +9,42 @@ mod packs;
 mod reads;
 mod sequences;
 
+use std::io;
+
 // The examples, one after the other.
-fn main() {
-    packs::put_blocks();
-    packs::put_lengths();
-    packs::put_numbers();
-    reads::put_first(0);
-    reads::put_first(1);
-    reads::put_first(4);
-    reads::put_first(128);
-    reads::put_first(2);
-    reads::put_first(8);
-    reads::put_lengths();
-    reads::put_drawn(1);
-    reads::put_drawn(3);
-    finishes::put_worked();
-    finishes::put_lengths();
-    finishes::put_numbers();
-    finishes::put_grey(b"black", 0, 1, 63, 3);
-    finishes::put_grey(b"white", 255, 1, 63, 3);
-    finishes::put_grey(b"black", 0, 3, 127, 15);
-    finishes::put_grey(b"white", 255, 3, 127, 15);
-    finishes::put_indices(1, 0b1010);
-    finishes::put_indices(0, 0b0101);
-    finishes::put_tie();
-    finishes::put_partitions(1);
-    finishes::put_partitions(3);
-    chooses::put_worked();
-    chooses::put_starts();
-    chooses::put_takes();
-    chooses::put_declined();
-    chooses::put_accepted();
-    chooses::put_made_up(0);
-    chooses::put_made_up(4294967295);
-    sequences::put_lists();
-    sequences::put_orders(2);
-    sequences::put_orders(4);
+fn main(rt: HostRuntime) -> io::Result<()> {
+    packs::put_blocks(&rt)?;
+    packs::put_lengths(&rt)?;
+    packs::put_numbers(&rt)?;
+    reads::put_first(&rt, 0)?;
+    reads::put_first(&rt, 1)?;
+    reads::put_first(&rt, 4)?;
+    reads::put_first(&rt, 128)?;
+    reads::put_first(&rt, 2)?;
+    reads::put_first(&rt, 8)?;
+    reads::put_lengths(&rt)?;
+    reads::put_drawn(&rt, 1)?;
+    reads::put_drawn(&rt, 3)?;
+    finishes::put_worked(&rt)?;
+    finishes::put_lengths(&rt)?;
+    finishes::put_numbers(&rt)?;
+    finishes::put_grey(&rt, b"black", 0, 1, 63, 3)?;
+    finishes::put_grey(&rt, b"white", 255, 1, 63, 3)?;
+    finishes::put_grey(&rt, b"black", 0, 3, 127, 15)?;
+    finishes::put_grey(&rt, b"white", 255, 3, 127, 15)?;
+    finishes::put_indices(&rt, 1, 0b1010)?;
+    finishes::put_indices(&rt, 0, 0b0101)?;
+    finishes::put_tie(&rt)?;
+    finishes::put_partitions(&rt, 1)?;
+    finishes::put_partitions(&rt, 3)?;
+    chooses::put_worked(&rt)?;
+    chooses::put_starts(&rt)?;
+    chooses::put_takes(&rt)?;
+    chooses::put_declined(&rt)?;
+    chooses::put_accepted(&rt)?;
+    chooses::put_made_up(&rt, 0)?;
+    chooses::put_made_up(&rt, 4294967295)?;
+    sequences::put_lists(&rt)?;
+    sequences::put_orders(&rt, 2)?;
+    sequences::put_orders(&rt, 4)
 }

@@ -2,16 +2,24 @@
 use crate::inputs::{changed, fill, level};
 use crate::out::{line, put, put_byte, put_part, say};
 use block::Rgb;
+use std::io;
 
 // Packs four endpoints with every index the same, and writes the block.
-fn put_packed(mode: u8, partition: u8, ends: [Rgb; 4], p: u8, index: u8) {
+fn put_packed(
+    rt: &impl Print,
+    mode: u8,
+    partition: u8,
+    ends: [Rgb; 4],
+    p: u8,
+    index: u8,
+) -> io::Result<()> {
     let mut part = [0u8; 16];
     let refusal = block::pack(mode, partition, ends, p, [index; 16], &mut part);
-    say(b"packed");
-    put_byte(mode);
-    put_byte(refusal);
-    put_part(&part);
-    line();
+    say(rt, b"packed")?;
+    put_byte(rt, mode)?;
+    put_byte(rt, refusal)?;
+    put_part(rt, &part)?;
+    line(rt)
 }
 
 // Four endpoints that differ.
@@ -29,45 +37,53 @@ fn unlike() -> [Rgb; 4] {
 }
 
 // P8, partition 63 and all else zero; and every index the mode's largest, so that both subsets are exchanged.
-pub(crate) fn put_blocks() {
-    put_packed(1, 63, level(0), 0, 0);
-    put_packed(3, 63, level(0), 0, 0);
-    put_packed(1, 17, unlike(), 2, 7);
-    put_packed(3, 17, unlike(), 9, 3);
+pub(crate) fn put_blocks(rt: &impl Print) -> io::Result<()> {
+    put_packed(rt, 1, 63, level(0), 0, 0)?;
+    put_packed(rt, 3, 63, level(0), 0, 0)?;
+    put_packed(rt, 1, 17, unlike(), 2, 7)?;
+    put_packed(rt, 3, 17, unlike(), 9, 3)
 }
 
 // A call of pack into a lent part: its answer, and the bytes that it changed.
-fn put_pack(mode: u8, partition: u8, channel: u8, p: u8, index: u8, part: &mut [u8]) {
+fn put_pack(
+    rt: &impl Print,
+    mode: u8,
+    partition: u8,
+    channel: u8,
+    p: u8,
+    index: u8,
+    part: &mut [u8],
+) -> io::Result<()> {
     fill(part);
     let refusal = block::pack(mode, partition, level(channel), p, [index; 16], part);
-    say(b"pack");
-    put_byte(refusal);
-    put(changed(part) as u64);
-    line();
+    say(rt, b"pack")?;
+    put_byte(rt, refusal)?;
+    put(rt, changed(part) as u64)?;
+    line(rt)
 }
 
 // The refusals of pack by the length of the block part.
-pub(crate) fn put_lengths() {
+pub(crate) fn put_lengths(rt: &impl Print) -> io::Result<()> {
     let mut none = [0u8; 0];
     let mut short = [0u8; 15];
     let mut long = [0u8; 17];
-    put_pack(1, 0, 0, 0, 0, &mut none);
-    put_pack(1, 0, 0, 0, 0, &mut short);
-    put_pack(2, 0, 0, 0, 0, &mut long);
+    put_pack(rt, 1, 0, 0, 0, 0, &mut none)?;
+    put_pack(rt, 1, 0, 0, 0, 0, &mut short)?;
+    put_pack(rt, 2, 0, 0, 0, 0, &mut long)
 }
 
 // Those by the numbers handed in, and the calls beside them that are not declined.
-pub(crate) fn put_numbers() {
+pub(crate) fn put_numbers(rt: &impl Print) -> io::Result<()> {
     let mut part = [0u8; 16];
-    put_pack(2, 64, 0, 0, 0, &mut part);
-    put_pack(1, 64, 64, 0, 0, &mut part);
-    put_pack(1, 63, 64, 4, 0, &mut part);
-    put_pack(3, 63, 64, 0, 0, &mut part);
-    put_pack(3, 63, 128, 16, 0, &mut part);
-    put_pack(1, 63, 63, 4, 8, &mut part);
-    put_pack(3, 63, 127, 16, 4, &mut part);
-    put_pack(1, 63, 63, 3, 8, &mut part);
-    put_pack(3, 63, 127, 15, 4, &mut part);
-    put_pack(1, 63, 63, 3, 7, &mut part);
-    put_pack(3, 63, 127, 15, 3, &mut part);
+    put_pack(rt, 2, 64, 0, 0, 0, &mut part)?;
+    put_pack(rt, 1, 64, 64, 0, 0, &mut part)?;
+    put_pack(rt, 1, 63, 64, 4, 0, &mut part)?;
+    put_pack(rt, 3, 63, 64, 0, 0, &mut part)?;
+    put_pack(rt, 3, 63, 128, 16, 0, &mut part)?;
+    put_pack(rt, 1, 63, 63, 4, 8, &mut part)?;
+    put_pack(rt, 3, 63, 127, 16, 4, &mut part)?;
+    put_pack(rt, 1, 63, 63, 3, 8, &mut part)?;
+    put_pack(rt, 3, 63, 127, 15, 4, &mut part)?;
+    put_pack(rt, 1, 63, 63, 3, 7, &mut part)?;
+    put_pack(rt, 3, 63, 127, 15, 3, &mut part)
 }

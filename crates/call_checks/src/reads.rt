@@ -2,20 +2,21 @@
 use crate::inputs::{ANY, changed, differences, draw, fill};
 use crate::out::{line, put, put_byte, put_part, put_word, say};
 use block::{Reading, Rgb};
+use std::io;
 
 // The blocks drawn in each mode.
 const BLOCKS: u32 = 256;
 
 // What a drawn block gives: the generator's number after it, the sum with all that was read, and whether it came back as it was.
-#[derive(Drop)]
+#[derive(Clone, Copy)]
 struct Tried {
     seed: u64,
     sum: u32,
     kept: bool,
 }
 
-// All fields of a reading: mode, partition, the channels of its endpoints, p_bits and indices.
-fn put_fields(r: Reading) {
+// All fields of a reading: mode, partition, the channels of its endpoints, p-bits and indices.
+fn put_fields(rt: &impl Print, r: Reading) -> io::Result<()> {
     let ends = r.ends;
     let a = ends[0];
     let b = ends[1];
@@ -23,39 +24,39 @@ fn put_fields(r: Reading) {
     let d = ends[3];
     let channels = [a.r, a.g, a.b, b.r, b.g, b.b, c.r, c.g, c.b, d.r, d.g, d.b];
     let indices = r.indices;
-    say(b" fields");
-    put_byte(r.mode);
-    put_byte(r.partition);
-    put_part(&channels);
-    put_byte(r.p);
-    put_part(&indices);
+    say(rt, b" fields")?;
+    put_byte(rt, r.mode)?;
+    put_byte(rt, r.partition)?;
+    put_part(rt, &channels)?;
+    put_byte(rt, r.p)?;
+    put_part(rt, &indices)
 }
 
 // A block read into a lent part, and measured against what that then holds.
-fn put_read(part: &[u8], pixels: &mut [u8]) {
+fn put_read(rt: &impl Print, part: &[u8], pixels: &mut [u8]) -> io::Result<()> {
     fill(pixels);
     let r = block::read(part, pixels);
     let m = block::measure(part, pixels);
-    say(b"read");
-    put_byte(r.refusal);
-    put(changed(pixels) as u64);
-    put_fields(r);
-    say(b" measured");
-    put_byte(m.refusal);
-    put_word(m.error);
-    line();
+    say(rt, b"read")?;
+    put_byte(rt, r.refusal)?;
+    put(rt, changed(pixels) as u64)?;
+    put_fields(rt, r)?;
+    say(rt, b" measured")?;
+    put_byte(rt, m.refusal)?;
+    put_word(rt, m.error)?;
+    line(rt)
 }
 
 // P12: a block whose byte 0 alone is not zero.
-pub(crate) fn put_first(first: u8) {
+pub(crate) fn put_first(rt: &impl Print, first: u8) -> io::Result<()> {
     let mut part = [0u8; 16];
     part[0] = first;
     let mut pixels = [0u8; 48];
-    put_read(&part, &mut pixels);
+    put_read(rt, &part, &mut pixels)
 }
 
 // The refusals of read and measure by the lengths of their parts.
-pub(crate) fn put_lengths() {
+pub(crate) fn put_lengths(rt: &impl Print) -> io::Result<()> {
     let none = [2u8; 0];
     let short = [2u8; 15];
     let part = [2u8; 16];
@@ -63,12 +64,12 @@ pub(crate) fn put_lengths() {
     let mut pixels = [0u8; 48];
     let mut less = [0u8; 47];
     let mut more = [0u8; 49];
-    put_read(&part, &mut less);
-    put_read(&part, &mut more);
-    put_read(&none, &mut pixels);
-    put_read(&short, &mut pixels);
-    put_read(&long, &mut pixels);
-    put_read(&short, &mut less);
+    put_read(rt, &part, &mut less)?;
+    put_read(rt, &part, &mut more)?;
+    put_read(rt, &none, &mut pixels)?;
+    put_read(rt, &short, &mut pixels)?;
+    put_read(rt, &long, &mut pixels)?;
+    put_read(rt, &short, &mut less)
 }
 
 // A drawn byte 0, with the lowest bits of a mode.
@@ -157,7 +158,7 @@ fn try_block(mode: u8, seed: u64, sum: u32) -> Tried {
 }
 
 // Drawn blocks of a mode: those that did not come back as they were, and the sum.
-pub(crate) fn put_drawn(mode: u8) {
+pub(crate) fn put_drawn(rt: &impl Print, mode: u8) -> io::Result<()> {
     let mut seed = mode as u64;
     let mut sum: u32 = 0;
     let mut differ: u32 = 0;
@@ -171,10 +172,10 @@ pub(crate) fn put_drawn(mode: u8) {
         }
         k += 1;
     }
-    say(b"drawn");
-    put_byte(mode);
-    put_word(BLOCKS);
-    put_word(differ);
-    put_word(sum);
-    line();
+    say(rt, b"drawn")?;
+    put_byte(rt, mode)?;
+    put_word(rt, BLOCKS)?;
+    put_word(rt, differ)?;
+    put_word(rt, sum)?;
+    line(rt)
 }

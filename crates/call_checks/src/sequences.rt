@@ -5,6 +5,7 @@ use crate::inputs::{ANY, changed, differences, draw, fill};
 use crate::out::{line, put, put_word, say};
 use block::{Candidate, Finished, PBits};
 use chooser::Chooser;
+use std::io;
 
 // The lists.
 const LISTS: u8 = 64;
@@ -13,7 +14,7 @@ const LISTS: u8 = 64;
 const CALLS: u32 = 12;
 
 // A block and its error.
-#[derive(Drop)]
+#[derive(Clone, Copy)]
 struct Least {
     block: [u8; 16],
     error: u32,
@@ -21,7 +22,7 @@ struct Least {
 
 // A list of calls: the generator's number, the chooser, the earliest block of least error that finish gave for the same offers,
 // how many offers were accepted and declined, and how many calls gave something else than they must.
-#[derive(Drop)]
+#[derive(Clone, Copy)]
 struct Run {
     seed: u64,
     chooser: Chooser,
@@ -32,7 +33,7 @@ struct Run {
 }
 
 // What a list leaves to the next.
-#[derive(Drop)]
+#[derive(Clone, Copy)]
 struct Total {
     seed: u64,
     wrong: u32,
@@ -43,7 +44,7 @@ fn count(n: u32, more: bool) -> u32 {
     if more { n % 65536 + 1 } else { n }
 }
 
-// The candidate of a number and a kind: any mode and partition, p_bits fixed or free.
+// The candidate of a number and a kind: any mode and partition, p-bits fixed or free.
 fn numbered(kind: u8, pool: u64, n: u64) -> Candidate {
     let mut bytes = [0u8; 13];
     let mut how = [0u8; 3];
@@ -56,7 +57,7 @@ fn numbered(kind: u8, pool: u64, n: u64) -> Candidate {
     }
 }
 
-// A candidate spoiled for one of the reasons: the mode, the partition, a channel or the p_bits.
+// A candidate spoiled for one of the reasons: the mode, the partition, a channel or the p-bits.
 fn spoiled(reason: u8, c: Candidate) -> Candidate {
     let ends = c.ends;
     let p = c.p;
@@ -188,37 +189,37 @@ fn measured(pixels: &[u8], run: Run) -> bool {
 }
 
 // Writes how many offers of a list were accepted and declined, and what is held after them.
-fn put_run(run: Run) {
-    say(b"list");
-    put_word(run.accepted);
-    put_word(run.declined);
-    put_held(b" held", run.chooser);
+fn put_run(rt: &impl Print, run: Run) -> io::Result<()> {
+    say(rt, b"list")?;
+    put_word(rt, run.accepted)?;
+    put_word(rt, run.declined)?;
+    put_held(rt, b" held", run.chooser)
 }
 
 // Draws pixels of a kind, and a list of calls over them.
-fn put_list(total: Total, kind: u8) -> Total {
+fn put_list(rt: &impl Print, total: Total, kind: u8) -> io::Result<Total> {
     let mut pixels = [0u8; 48];
     let seed = draw(total.seed, kind, &mut pixels);
     let start = begin(&pixels, seed, total.wrong);
     let end = takes(calls(start, &pixels, kind, seed));
-    put_run(end);
-    Total {
+    put_run(rt, end)?;
+    Ok(Total {
         seed: end.seed,
         wrong: count(end.wrong, !measured(&pixels, end)),
-    }
+    })
 }
 
 // Draws lists of every kind, and writes how many calls gave something else than they must.
-pub(crate) fn put_lists() {
+pub(crate) fn put_lists(rt: &impl Print) -> io::Result<()> {
     let mut total = Total { seed: 0, wrong: 0 };
     let mut k: u8 = 0;
     while k < LISTS {
-        total = put_list(total, k % 6);
+        total = put_list(rt, total, k % 6)?;
         k += 1;
     }
-    say(b"wrong");
-    put_word(total.wrong);
-    line();
+    say(rt, b"wrong")?;
+    put_word(rt, total.wrong)?;
+    line(rt)
 }
 
 // No two of four numbers are the same.
@@ -227,7 +228,7 @@ fn all_differ(a: u64, b: u64, c: u64, d: u64) -> bool {
 }
 
 // Offers the candidates of the four digits of a number, where these differ, and writes the digits and what is then held.
-fn put_order(pixels: &[u8], kind: u8, pool: u64, k: u64) {
+fn put_order(rt: &impl Print, pixels: &[u8], kind: u8, pool: u64, k: u64) -> io::Result<()> {
     let a = k / 64 % 4;
     let b = k / 16 % 4;
     let c = k / 4 % 4;
@@ -237,27 +238,29 @@ fn put_order(pixels: &[u8], kind: u8, pool: u64, k: u64) {
         let two = after_offer(one, numbered(kind, pool, b));
         let three = after_offer(two, numbered(kind, pool, c));
         let four = after_offer(three, numbered(kind, pool, d));
-        say(b"order");
-        put(a);
-        put(b);
-        put(c);
-        put(d);
-        put_held(b" held", four);
+        say(rt, b"order")?;
+        put(rt, a)?;
+        put(rt, b)?;
+        put(rt, c)?;
+        put(rt, d)?;
+        put_held(rt, b" held", four)?;
     }
+    Ok(())
 }
 
 // Offers four candidates in every order.
-fn put_each(pixels: &[u8], kind: u8, pool: u64) {
+fn put_each(rt: &impl Print, pixels: &[u8], kind: u8, pool: u64) -> io::Result<()> {
     let mut k: u64 = 0;
     while k < 256 {
-        put_order(pixels, kind, pool, k);
+        put_order(rt, pixels, kind, pool, k)?;
         k += 1;
     }
+    Ok(())
 }
 
 // Draws pixels of a kind, and offers four drawn candidates over them in every order.
-pub(crate) fn put_orders(kind: u8) {
+pub(crate) fn put_orders(rt: &impl Print, kind: u8) -> io::Result<()> {
     let mut pixels = [0u8; 48];
     let pool = draw(kind as u64, kind, &mut pixels);
-    put_each(&pixels, kind, pool);
+    put_each(rt, &pixels, kind, pool)
 }

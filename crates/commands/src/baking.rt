@@ -14,17 +14,19 @@ use plates::progress::{progress, progress_ended};
 use plates::report::say_figures;
 use plates::said::say;
 use proposals::baking::bake_row;
+use std::fs::File;
+use std::io::Print;
 
-// What is read and written: the photograph, the new plate, and the file of proposals, or -1 for the built-in ones.
-#[derive(Drop)]
-struct Job {
-    photo: Photo,
-    out: i32,
-    source: i32,
+// What is read and written: the photograph, the new plate, and the file of proposals, or none for the built-in ones.
+#[derive(Clone, Copy)]
+struct Job<'a> {
+    photo: &'a Photo,
+    out: &'a File,
+    source: Option<&'a File>,
 }
 
 // The figures and the refused proposals so far, and whether all went well.
-#[derive(Drop)]
+#[derive(Clone, Copy)]
 struct Baked {
     ok: bool,
     figures: Figures,
@@ -45,7 +47,7 @@ fn nothing_baked() -> Baked
 }
 
 // A row's blocks and errors: whether they are there, and what was refused so far.
-#[derive(Drop)]
+#[derive(Clone, Copy)]
 struct Chosen {
     ok: bool,
     refused: Refused,
@@ -53,8 +55,9 @@ struct Chosen {
 
 // Chooses the blocks of a row.
 fn choose_row(
+    rt: &impl Print,
     path: &[u8],
-    source: i32,
+    source: Option<&File>,
     row: usize,
     refused: Refused,
     groups: &[u8],
@@ -65,25 +68,26 @@ fn choose_row(
     requires parts { length blocks.old ≡ 16 * length errors.old }
     requires size { (length errors.old ≤ 4096) × (row < 4096) }
 {
-    if source < 0 {
+    let Some(file) = source else {
         bake_row(groups, blocks, errors);
         return Chosen { ok: true, refused };
-    }
-    let p = propose_row(path, source, row, refused, groups, blocks, errors);
+    };
+    let p = propose_row(rt, path, file, row, refused, groups, blocks, errors);
     let refused = p.refused;
     Chosen { ok: p.ok, refused }
 }
 
 // Writes blocks where they are chosen.
-fn write_chosen(chosen: bool, path: &[u8], out: i32, blocks: &[u8]) -> bool {
-    chosen && write(path, out, blocks)
+fn write_chosen(rt: &impl Print, chosen: bool, path: &[u8], out: &File, blocks: &[u8]) -> bool {
+    chosen && write(rt, path, out, blocks)
 }
 
 // Chooses the blocks of a row of groups and writes them.
 fn write_row(
+    rt: &impl Print,
     plate_path: &[u8],
     source_path: &[u8],
-    job: Job,
+    job: Job<'_>,
     row: usize,
     refused: Refused,
     groups: &[u8],
@@ -96,6 +100,7 @@ fn write_row(
     let b = errors.len() * 16;
     let plates: &mut [u8] = blocks;
     let chosen = choose_row(
+        rt,
         source_path,
         job.source,
         row,
@@ -107,16 +112,17 @@ fn write_row(
     let baked = &plates[..];
     let refused = chosen.refused;
     Chosen {
-        ok: write_chosen(chosen.ok, plate_path, job.out, &baked[0..b]),
+        ok: write_chosen(rt, chosen.ok, plate_path, job.out, &baked[0..b]),
         refused,
     }
 }
 
 // Chooses the blocks of a row of groups, writes them and counts their errors.
 fn bake_groups(
+    rt: &impl Print,
     plate_path: &[u8],
     source_path: &[u8],
-    job: Job,
+    job: Job<'_>,
     row: usize,
     n: usize,
     before: Baked,
@@ -131,6 +137,7 @@ fn bake_groups(
     let all: &mut [u32] = errors;
     let refused = before.refused;
     let chosen = write_row(
+        rt,
         plate_path,
         source_path,
         job,
@@ -152,10 +159,11 @@ fn bake_groups(
 
 // Reads a row of the photograph, chooses its blocks and writes them.
 fn bake_next(
+    rt: &impl Print,
     photo_path: &[u8],
     plate_path: &[u8],
     source_path: &[u8],
-    job: Job,
+    job: Job<'_>,
     row: usize,
     before: Baked,
     band: &mut [u8; BAND],
@@ -163,7 +171,7 @@ fn bake_next(
     blocks: &mut [u8; ROW],
     errors: &mut [u32; COLUMNS],
 ) -> Baked
-    requires size { Sized job.photo.width job.photo.height × (row * 4 < job.photo.height) }
+    requires size { Sized job.photo.now.width job.photo.now.height × (row * 4 < job.photo.now.height) }
     requires before { Within before.figures row }
     ensures { Within result.figures (row + 1) }
 {
@@ -171,7 +179,7 @@ fn bake_next(
     let n = across(photo.width);
     let g = n * 48;
     let pixels: &mut [u8] = groups;
-    if !read_groups(photo_path, photo, row, band, &mut pixels[0..g]) {
+    if !read_groups(rt, photo_path, photo, row, band, &mut pixels[0..g]) {
         let figures = before.figures;
         let refused = before.refused;
         return Baked {
@@ -182,6 +190,7 @@ fn bake_next(
     }
     let cut = &pixels[..];
     bake_groups(
+        rt,
         plate_path,
         source_path,
         job,
@@ -195,8 +204,14 @@ fn bake_next(
 }
 
 // Bakes a photograph row by row.
-fn bake_rows(photo_path: &[u8], plate_path: &[u8], source_path: &[u8], job: Job) -> Baked
-    requires { Sized job.photo.width job.photo.height }
+fn bake_rows(
+    rt: &HostRuntime,
+    photo_path: &[u8],
+    plate_path: &[u8],
+    source_path: &[u8],
+    job: Job<'_>,
+) -> Baked
+    requires { Sized job.photo.now.width job.photo.now.height }
     ensures { Within result.figures 4096 }
 {
     let photo = job.photo;
@@ -208,8 +223,9 @@ fn bake_rows(photo_path: &[u8], plate_path: &[u8], source_path: &[u8], job: Job)
     let mut state = nothing_baked();
     let mut row: usize = 0;
     while row < rows && state.ok {
-        progress(b"baking", row, rows);
+        progress(rt, b"baking", row, rows);
         state = bake_next(
+            rt,
             photo_path,
             plate_path,
             source_path,
@@ -223,69 +239,96 @@ fn bake_rows(photo_path: &[u8], plate_path: &[u8], source_path: &[u8], job: Job)
         );
         row += 1;
     }
-    progress_ended(rows);
+    progress_ended(rt, rows);
     state
 }
 
+// Whether all proposals of a file were read, or there is none.
+fn all_read(rt: &impl Print, path: &[u8], source: Option<&File>) -> bool {
+    match source {
+        Some(file) => at_end(rt, path, file),
+        None => true,
+    }
+}
+
 // Puts the new plate in place of the old one where all went well, and else removes it.
-fn settled(plate_path: &[u8], source_path: &[u8], job: Job, baked: bool) -> bool {
-    if !baked || (job.source >= 0 && !at_end(source_path, job.source)) {
-        discard(plate_path, job.out);
+fn settled(rt: &HostRuntime, plate_path: &[u8], out: File, baked: bool) -> bool {
+    if !baked {
+        discard(rt, plate_path, out);
         return false;
     }
-    keep(plate_path, job.out)
+    keep(rt, plate_path, out)
 }
 
 // Says what was refused of the proposals of a file, the figures, and that the plate is written.
-fn say_baked(plate_path: &[u8], source: i32, state: Baked, columns: u64)
+fn say_baked(rt: &impl Print, plate_path: &[u8], proposed: bool, state: Baked, columns: u64)
     requires { (0 < columns) × Within state.figures 4096 }
 {
-    if source >= 0 {
-        say_counts(state.refused);
+    if proposed {
+        say_counts(rt, state.refused);
     }
-    say_figures(state.figures, columns);
-    say(b"done: ");
-    say(plate_path);
-    say(b" is written\n");
+    say_figures(rt, state.figures, columns);
+    say(rt, b"done: ");
+    say(rt, plate_path);
+    say(rt, b" is written\n");
 }
 
 // Bakes into the new plate.
-fn bake_into(photo_path: &[u8], plate_path: &[u8], source_path: &[u8], job: Job)
-    requires { Sized job.photo.width job.photo.height }
+fn bake_into(
+    rt: &HostRuntime,
+    photo_path: &[u8],
+    plate_path: &[u8],
+    source_path: &[u8],
+    photo: &Photo,
+    source: Option<&File>,
+    out: File,
+)
+    requires { Sized photo.now.width photo.now.height }
 {
-    let photo = job.photo;
     let columns = across(photo.width);
-    let state = bake_rows(photo_path, plate_path, source_path, job);
-    if settled(plate_path, source_path, job, state.ok) {
-        say_baked(plate_path, job.source, state, columns as u64);
+    let job = Job {
+        photo,
+        out: &out,
+        source,
+    };
+    let state = bake_rows(rt, photo_path, plate_path, source_path, job);
+    let baked = state.ok && all_read(rt, source_path, source);
+    if settled(rt, plate_path, out, baked) {
+        say_baked(rt, plate_path, source.is_some(), state, columns as u64);
     }
 }
 
 // Bakes an open photograph with an open file of proposals, or with the built-in ones.
-fn bake_photo(photo_path: &[u8], plate_path: &[u8], source_path: &[u8], photo: Photo, source: i32)
-    requires { Sized photo.width photo.height }
+fn bake_photo(
+    rt: &HostRuntime,
+    photo_path: &[u8],
+    plate_path: &[u8],
+    source_path: &[u8],
+    photo: &Photo,
+    source: Option<&File>,
+)
+    requires { Sized photo.now.width photo.now.height }
 {
-    let out = create(plate_path, photo.fd, source);
-    if out >= 0 {
-        let job = Job { photo, out, source };
-        bake_into(photo_path, plate_path, source_path, job);
+    if let Some(out) = create(rt, plate_path, &photo.file, source) {
+        bake_into(rt, photo_path, plate_path, source_path, photo, source, out);
     }
 }
 
 // Bakes a photograph into a plate, with the proposals of a file where its path is not empty.
-pub(crate) fn bake(photo_path: &[u8], plate_path: &[u8], source_path: &[u8]) {
-    let photo = open_photo(photo_path);
-    if !photo.ok {
+pub(crate) fn bake(rt: &HostRuntime, photo_path: &[u8], plate_path: &[u8], source_path: &[u8]) {
+    let Some(photo) = open_photo(rt, photo_path) else {
         return;
-    }
+    };
     if source_path.len() == 0 {
-        bake_photo(photo_path, plate_path, source_path, photo, -1);
-    } else {
-        let source = open(source_path);
-        if source >= 0 {
-            bake_photo(photo_path, plate_path, source_path, photo, source);
-            libc::close(source);
-        }
+        bake_photo(rt, photo_path, plate_path, source_path, &photo, None);
+    } else if let Some(source) = open(rt, source_path) {
+        bake_photo(
+            rt,
+            photo_path,
+            plate_path,
+            source_path,
+            &photo,
+            Some(&source),
+        );
     }
-    libc::close(photo.fd);
 }

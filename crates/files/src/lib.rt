@@ -1,16 +1,19 @@
-// What the system knows of an open file.
-ghost use Rattle.std.specs.Prelude.{◌≡◌, false};
+// What the system knows of an open file, and its bytes read into a buffer.
+#![tactic(auto)]
+
+ghost use Rattle.std.specs.Prelude.{◌≡◌, false, is_ok, IfOk, IsTrue, ◌↔◌, take};
+ghost use Rattle.std.specs.Fs.{file_type, IsFile, IsDir};
+ghost use Rattle.std.specs.Io.KnownBytes.{Consumes};
+ghost use Rattle.io.specs.Counts.{IsPrefixLen};
 ghost use Rattle.files.specs.Unknown.{unknown};
 
-use libc::types;
+use std::fs::{File, Metadata};
+use std::io;
+use std::io::Read;
+use std::os::unix::fs::MetadataExt;
 
-// The kinds, as st_mode has them in its bits from 12 to 15.
-const REGULAR: u32 = libc::S_IFREG / 4096;
-
-const FOLDER: u32 = libc::S_IFDIR / 4096;
-
-// What is known of one file. Two descriptors are the same file where device and inode are the same.
-#[derive(Drop)]
+// What is known of one file. Two open files are the same file where device and inode are the same.
+#[derive(Clone, Copy)]
 pub struct Status {
     pub ok: bool,
     pub regular: bool,
@@ -19,36 +22,14 @@ pub struct Status {
     pub inode: u64,
 }
 
-// A record of zeros for the system to fill.
-fn blank() -> types::stat {
-    let none = types::timespec {
-        tv_sec: 0,
-        tv_nsec: 0,
-    };
-    types::stat {
-        st_dev: 0,
-        st_ino: 0,
-        st_nlink: 0,
-        st_mode: 0,
-        st_uid: 0,
-        st_gid: 0,
-        __pad: 0,
-        st_rdev: 0,
-        st_size: 0,
-        st_blksize: 0,
-        st_blocks: 0,
-        st_atim: none,
-        st_mtim: none,
-        st_ctim: none,
-        __unused: [0; 3],
-    }
-}
-
-// What the answer and the filled record say.
-fn judged(answer: i32, found: types::stat) -> Status
-    ensures { result.ok ≡ false → result ≡ unknown }
+// What the system's answer says.
+fn judged(answer: io::Result<Metadata>) -> Status
+    ensures fails { result.ok ≡ false → result ≡ unknown }
+    ensures known { is_ok answer ≡ result.ok }
+    ensures regular { IfOk answer (λ found. IsTrue result.regular ↔ IsFile (file_type found)) }
+    ensures folder { IfOk answer (λ found. IsTrue result.folder ↔ IsDir (file_type found)) }
 {
-    if answer != 0 {
+    let Ok(found) = answer else {
         return Status {
             ok: false,
             regular: false,
@@ -56,22 +37,34 @@ fn judged(answer: i32, found: types::stat) -> Status
             device: 0,
             inode: 0,
         };
-    }
-    let kind = found.st_mode / 4096 % 16;
+    };
     Status {
         ok: true,
-        regular: kind == REGULAR,
-        folder: kind == FOLDER,
-        device: found.st_dev,
-        inode: found.st_ino,
+        regular: found.is_file(),
+        folder: found.is_dir(),
+        device: found.dev(),
+        inode: found.ino(),
     }
 }
 
-// Asks the system about the file that is open as fd. Where it does not know, all is false or 0.
-pub fn status_of(fd: i32) -> Status
+// Asks the system about an open file. Where it does not know, all is false or 0.
+pub fn status_of(file: &File) -> Status
     ensures { result.ok ≡ false → result ≡ unknown }
 {
-    let mut found = blank();
-    let answer = libc::fstat(fd, &mut found);
-    judged(answer, found)
+    judged(file.metadata())
+}
+
+// Reads until a buffer is full, the reader ends or a read fails, and answers how many bytes it put at the buffer's start.
+pub fn read_full<R: Read>(from: &mut R, to: &mut [u8]) -> usize
+    ensures counts { IsPrefixLen result to.new }
+    ensures bytes { Consumes (R.remaining from.old) (R.remaining from.new) (take result to.new) }
+{
+    let mut done: usize = 0;
+    while done < to.len() {
+        match from.read(&mut to[done..]) {
+            Ok(n) if n > 0 => done += n,
+            _ => return done,
+        }
+    }
+    done
 }

@@ -1,37 +1,39 @@
 // Prints what the crates palette and finishing give for worked examples; the gate holds it to the file `stdout`.
+#![tactic(auto)]
+
 ghost use Rattle.std.specs.Prelude.{◌≡◌, ◌<◌, ◌≤◌, length};
 ghost use Rattle.bptc.specs.Mode.{mode1, mode3};
 ghost use Rattle.bptc.specs.Shown.{Stored};
 
 use bptc_block::PBits;
 use finishing::{Indices, nearest};
-use libc::STDOUT_FILENO;
 use palette::palettes::{WEIGHTS_2, WEIGHTS_3};
 use palette::{Colour, Mode1, Mode3, Rgb};
+use std::io;
 
 // Writes a text.
-fn say(text: &[u8]) {
-    io::write_all(STDOUT_FILENO, text);
+fn say(rt: &impl Print, text: &[u8]) -> io::Result<()> {
+    rt.write_all(text)
 }
 
 // Writes a space.
-fn space() {
-    io::write_all(STDOUT_FILENO, b" ");
+fn space(rt: &impl Print) -> io::Result<()> {
+    rt.write_all(b" ")
 }
 
 // Ends a line.
-fn line() {
-    io::write_all(STDOUT_FILENO, b"\n");
+fn line(rt: &impl Print) -> io::Result<()> {
+    rt.write_all(b"\n")
 }
 
 // Writes a number.
-fn put(n: u32) {
-    io::print_decimal(STDOUT_FILENO, n as u64);
+fn put(rt: &impl Print, n: u32) -> io::Result<()> {
+    rt.print(n)
 }
 
 // Writes an index.
-fn put_index(n: u8) {
-    put(n as u32);
+fn put_index(rt: &impl Print, n: u8) -> io::Result<()> {
+    put(rt, n as u32)
 }
 
 // A colour with three equal channels.
@@ -42,40 +44,40 @@ fn grey(v: u8) -> Rgb
 }
 
 // The byte that a channel of mode 1 shows.
-fn put_shown(e: u8, p: u8)
+fn put_shown(rt: &impl Print, e: u8, p: u8) -> io::Result<()>
     requires channel { e < 64 }
     requires bit { p < 2 }
 {
     let c = palette::colour::p_promote(Mode1::CHANNEL_BITS, grey(e), p);
-    say(b"shown ");
-    put(c.r as u32);
-    line();
+    say(rt, b"shown ")?;
+    put(rt, c.r as u32)?;
+    line(rt)
 }
 
 // The reds of the first colours of a row.
-fn put_row(row: [Colour; 8], colours: usize)
+fn put_row(rt: &impl Print, row: [Colour; 8], colours: usize) -> io::Result<()>
     requires { colours ≤ 8 }
 {
     let mut k: usize = 0;
     while k < colours {
         let c = row[k];
-        put(c.0 % 256);
-        space();
+        put(rt, c.0 % 256)?;
+        space(rt)?;
         k += 1;
     }
-    line();
+    line(rt)
 }
 
 // P10: both palettes between black and white.
-fn put_palettes() {
+fn put_palettes(rt: &impl Print) -> io::Result<()> {
     let a = grey(0);
     let b = grey(255);
     let four = palette::palettes::rows(&WEIGHTS_2, Mode3::COLOURS, [a, b, a, b]);
     let eight = palette::palettes::rows(&WEIGHTS_3, Mode1::COLOURS, [a, b, a, b]);
-    say(b"palette ");
-    put_row(four[0], Mode3::COLOURS);
-    say(b"palette ");
-    put_row(eight[1], Mode1::COLOURS);
+    say(rt, b"palette ")?;
+    put_row(rt, four[0], Mode3::COLOURS)?;
+    say(rt, b"palette ")?;
+    put_row(rt, eight[1], Mode1::COLOURS)
 }
 
 // The first pixel of subset 1, and 16 where there is none.
@@ -94,21 +96,21 @@ fn first_of_second(partition: usize) -> usize
 }
 
 // The subset of each pixel, then the size of subset 1, its first pixel and its anchor.
-fn put_partition(partition: usize)
+fn put_partition(rt: &impl Print, partition: usize) -> io::Result<()>
     requires { partition < 64 }
 {
     let mut i: usize = 0;
     while i < 16 {
-        put(partitions::subset(partition, i) as u32);
+        put(rt, partitions::subset(partition, i) as u32)?;
         i += 1;
     }
-    space();
-    put(partitions::size(partition));
-    space();
-    put(first_of_second(partition) as u32);
-    space();
-    put(partitions::anchor(partition) as u32);
-    line();
+    space(rt)?;
+    put(rt, partitions::size(partition))?;
+    space(rt)?;
+    put(rt, first_of_second(partition) as u32)?;
+    space(rt)?;
+    put(rt, partitions::anchor(partition) as u32)?;
+    line(rt)
 }
 
 // Sixteen pixels of many colours.
@@ -166,60 +168,62 @@ fn ends3() -> [Rgb; 4]
     [a, b, c, d]
 }
 
-// The indices, of so many numbers each, the p_bits and the error of both subsets.
-fn put_found(found: Indices, numbers: u64)
+// The indices, of so many numbers each, the p-bits and the error of both subsets.
+fn put_found(rt: &impl Print, found: Indices, numbers: u64) -> io::Result<()>
     requires { 0 < numbers }
 {
     let mut left = found.indexes;
     let mut i: usize = 0;
     while i < 16 {
-        put_index((left % numbers % 256) as u8);
+        put_index(rt, (left % numbers % 256) as u8)?;
         left = left / numbers;
         i += 1;
     }
-    space();
-    put_index(found.p);
-    space();
-    put(found.error);
-    line();
+    space(rt)?;
+    put_index(rt, found.p)?;
+    space(rt)?;
+    put(rt, found.error)?;
+    line(rt)
 }
 
-// The search in both modes over a partition, at p_bits that are fixed or free.
-fn put_searches(partition: usize, p1: PBits, p3: PBits)
+// The search in both modes over a partition, at p-bits that are fixed or free.
+fn put_searches(rt: &impl Print, partition: usize, p1: PBits, p3: PBits) -> io::Result<()>
     requires { partition < 64 }
 {
     let bytes = pixels();
-    say(b"mode 1 ");
-    put_found(nearest(1, ends1(), p1, &bytes, partition), 8);
-    say(b"mode 3 ");
-    put_found(nearest(3, ends3(), p3, &bytes, partition), 4);
+    say(rt, b"mode 1 ")?;
+    put_found(rt, nearest(1, ends1(), p1, &bytes, partition), 8)?;
+    say(rt, b"mode 3 ")?;
+    put_found(rt, nearest(3, ends3(), p3, &bytes, partition), 4)
 }
 
 // A partition, and the searches over it.
-fn put_all(partition: usize)
+fn put_all(rt: &impl Print, partition: usize) -> io::Result<()>
     requires { partition < 64 }
 {
-    say(b"partition ");
-    put(partition as u32);
-    space();
-    put_partition(partition);
+    say(rt, b"partition ")?;
+    put(rt, partition as u32)?;
+    space(rt)?;
+    put_partition(rt, partition)?;
     put_searches(
+        rt,
         partition,
         PBits::Fixed((partition % 4) as u8),
         PBits::Fixed((partition % 16) as u8),
-    );
-    put_searches(partition, PBits::Free, PBits::Free);
+    )?;
+    put_searches(rt, partition, PBits::Free, PBits::Free)
 }
 
 // The examples, one after the other.
-fn main() {
-    put_shown(63, 1);
-    put_shown(63, 0);
-    put_shown(0, 1);
-    put_palettes();
+fn main(rt: HostRuntime) -> io::Result<()> {
+    put_shown(&rt, 63, 1)?;
+    put_shown(&rt, 63, 0)?;
+    put_shown(&rt, 0, 1)?;
+    put_palettes(&rt)?;
     let mut partition: usize = 0;
     while partition < 64 {
-        put_all(partition);
+        put_all(&rt, partition)?;
         partition += 1;
     }
+    Ok(())
 }

@@ -2,42 +2,43 @@
 ghost use Rattle.io.specs.Counts.{IsPrefixLen};
 
 use check::same;
-use libc::STDOUT_FILENO;
+use files::read_full;
+use std::fs;
+use std::fs::File;
+use std::io::Print;
 
 // Writes a text.
-pub(crate) fn say(text: &[u8]) {
-    io::write_all(STDOUT_FILENO, text);
+pub(crate) fn say(rt: &impl Print, text: &[u8]) {
+    let _ = rt.write_all(text);
 }
 
 // Reads a file, of at most as many bytes as the buffer has, and answers how many there are.
-pub(crate) fn read(path: &[u8], bytes: &mut [u8]) -> usize
+pub(crate) fn read(rt: &HostRuntime, path: &str, bytes: &mut [u8]) -> usize
     ensures { IsPrefixLen result bytes.new }
 {
-    let fd = os::open_read(path);
-    let got = io::read_full(fd, bytes);
-    libc::close(fd);
-    got
+    match File::open(rt, path) {
+        Ok(mut file) => read_full(&mut file, bytes),
+        Err(_) => 0,
+    }
 }
 
 // Makes a file of these bytes.
-pub(crate) fn write(path: &[u8], bytes: &[u8]) {
-    let fd = os::open_overwrite(path);
-    io::write_all(fd, bytes);
-    libc::close(fd);
+pub(crate) fn write(rt: &HostRuntime, path: &str, bytes: &[u8]) {
+    let _ = fs::write(rt, path, bytes);
 }
 
 // Says whether two files have the same bytes.
-pub(crate) fn say_same(path: &[u8], stored: &[u8]) {
-    let mut ours = io::large_buffer();
-    let mut theirs = io::large_buffer();
-    let n = read(path, &mut ours);
-    let m = read(stored, &mut theirs);
-    say(path);
+pub(crate) fn say_same(rt: &HostRuntime, path: &str, stored: &str) {
+    let mut ours = [0u8; 65536];
+    let mut theirs = [0u8; 65536];
+    let n = read(rt, path, &mut ours);
+    let m = read(rt, stored, &mut theirs);
+    say(rt, path.as_bytes());
     if n > 0 && same(&ours[..n], &theirs[..m]) {
-        say(b" is ");
+        say(rt, b" is ");
     } else {
-        say(b" differs from ");
+        say(rt, b" differs from ");
     }
-    say(stored);
-    say(b"\n");
+    say(rt, stored.as_bytes());
+    say(rt, b"\n");
 }

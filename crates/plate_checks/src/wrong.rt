@@ -8,92 +8,101 @@ use commands::run;
 const LONGEST: usize = 256;
 
 // Runs a command on the first bytes of a file.
-fn run_cut(bytes: &[u8; LONGEST], n: usize, line: &[u8])
+fn run_cut(rt: &HostRuntime, bytes: &[u8; LONGEST], n: usize, line: &[u8])
     requires { n ≤ 256 }
 {
     let all: &[u8] = bytes;
-    write(b"cut", &all[0..n]);
-    run(line);
+    write(rt, "cut", &all[0..n]);
+    run(rt, line);
 }
 
 // Runs a command on a file cut at every length.
-fn cut_at_every_length(path: &[u8], line: &[u8]) {
+fn cut_at_every_length(rt: &HostRuntime, path: &str, line: &[u8]) {
     let mut bytes = [0u8; LONGEST];
-    let n = read(path, &mut bytes);
+    let n = read(rt, path, &mut bytes);
     let mut k: usize = 0;
     while k < n && k < LONGEST {
-        run_cut(&bytes, k, line);
+        run_cut(rt, &bytes, k, line);
         k += 1;
     }
 }
 
 // The photograph, the plate and the proposals of the small picture, cut.
-pub(crate) fn cut_files() {
-    cut_at_every_length(b"small.ppm", b"bake\x00cut\x00kept.bc7\x00");
-    cut_at_every_length(b"small.bc7", b"measure\x00small.ppm\x00cut\x00--total\x00");
+pub(crate) fn cut_files(rt: &HostRuntime) {
+    cut_at_every_length(rt, "small.ppm", b"bake\x00cut\x00kept.bc7\x00");
     cut_at_every_length(
-        b"small.proposals",
+        rt,
+        "small.bc7",
+        b"measure\x00small.ppm\x00cut\x00--total\x00",
+    );
+    cut_at_every_length(
+        rt,
+        "small.proposals",
         b"bake\x00small.ppm\x00kept.bc7\x00cut\x00",
     );
 }
 
 // Bakes a file with a wrong header.
-fn bake_wrong(bytes: &[u8]) {
-    write(b"wrong", bytes);
-    run(b"bake\x00wrong\x00kept.bc7\x00");
+fn bake_wrong(rt: &HostRuntime, bytes: &[u8]) {
+    write(rt, "wrong", bytes);
+    run(rt, b"bake\x00wrong\x00kept.bc7\x00");
 }
 
 // Wrong headers, and a photograph that is longer than it says.
-pub(crate) fn headers() {
-    bake_wrong(b"P5 1 1 255 abc");
-    bake_wrong(b"P6 x 1 255 abc");
-    bake_wrong(b"P6 1 # 1 255 abc");
-    bake_wrong(b"P6 1 1 ");
-    bake_wrong(b"P6 0 1 255 abc");
-    bake_wrong(b"P6 1 16385 255 abc");
-    bake_wrong(b"P6 99999999999 1 255 abc");
-    bake_wrong(b"P6 1 1 65535 abc");
-    bake_wrong(b"P6 1 1 255abc");
-    bake_wrong(b"P6 1 1 255 abcd");
-    bake_wrong(b"P6 2 1 255 abc");
+pub(crate) fn headers(rt: &HostRuntime) {
+    bake_wrong(rt, b"P5 1 1 255 abc");
+    bake_wrong(rt, b"P6 x 1 255 abc");
+    bake_wrong(rt, b"P6 1 # 1 255 abc");
+    bake_wrong(rt, b"P6 1 1 ");
+    bake_wrong(rt, b"P6 0 1 255 abc");
+    bake_wrong(rt, b"P6 1 16385 255 abc");
+    bake_wrong(rt, b"P6 99999999999 1 255 abc");
+    bake_wrong(rt, b"P6 1 1 65535 abc");
+    bake_wrong(rt, b"P6 1 1 255abc");
+    bake_wrong(rt, b"P6 1 1 255 abcd");
+    bake_wrong(rt, b"P6 2 1 255 abc");
 }
 
 // Plates with blocks of other modes, and of another picture.
-pub(crate) fn plates() {
-    write(b"wrong", b"\x40123456789abcdef0123456789abcdef");
-    run(b"measure\x00small.ppm\x00wrong\x00--total\x00");
-    run(b"show\x00wrong\x008\x004\x00picture.ppm\x00");
-    run(b"map\x00small.ppm\x00wrong\x00errors.ppm\x00");
-    run(b"read\x00wrong\x00");
-    write(b"wrong", b"\x00123456789abcdef\x08123456789abcdef");
-    run(b"measure\x00small.ppm\x00wrong\x00");
-    run(b"measure\x00signal.ppm\x00small.bc7\x00");
-    run(b"show\x00small.bc7\x009\x004\x00picture.ppm\x00");
+pub(crate) fn plates(rt: &HostRuntime) {
+    write(rt, "wrong", b"\x40123456789abcdef0123456789abcdef");
+    run(rt, b"measure\x00small.ppm\x00wrong\x00--total\x00");
+    run(rt, b"show\x00wrong\x008\x004\x00picture.ppm\x00");
+    run(rt, b"map\x00small.ppm\x00wrong\x00errors.ppm\x00");
+    run(rt, b"read\x00wrong\x00");
+    write(rt, "wrong", b"\x00123456789abcdef\x08123456789abcdef");
+    run(rt, b"measure\x00small.ppm\x00wrong\x00");
+    run(rt, b"measure\x00signal.ppm\x00small.bc7\x00");
+    run(rt, b"show\x00small.bc7\x009\x004\x00picture.ppm\x00");
 }
 
 // Proposals in which the last byte of a record, the second of block 1, is 2.
-pub(crate) fn flags() {
+pub(crate) fn flags(rt: &HostRuntime) {
     write(
-        b"wrong",
+        rt,
+        "wrong",
         b"\x01\x03\x090123456789ab\x05\x00\x02\x03\x090123456789ab\x05\x01\x03\x090123456789ab\x05\x02",
     );
-    run(b"bake\x00small.ppm\x00kept.bc7\x00wrong\x00");
+    run(rt, b"bake\x00small.ppm\x00kept.bc7\x00wrong\x00");
 }
 
 // Wrong arguments, files that are not there, and an output that is an input.
-pub(crate) fn arguments() {
-    run(b"");
-    run(b"paint\x00");
-    run(b"help\x00me\x00");
-    run(b"bake\x00small.ppm\x00");
-    run(b"bake\x00small.ppm\x00\x00");
-    run(b"bake\x00none.ppm\x00kept.bc7\x00");
-    run(b"bake\x00.\x00kept.bc7\x00");
-    run(b"bake\x00small.ppm\x00./small.ppm\x00");
-    run(b"measure\x00small.ppm\x00small.bc7\x00--best\x00");
-    run(b"measure\x00small.ppm\x00small.bc7\x00--worst\x000\x00");
-    run(b"measure\x00small.ppm\x00small.bc7\x00--worst\x001001\x00");
-    run(b"show\x00small.bc7\x005\x00\x00out.ppm\x00");
-    run(b"show\x00small.bc7\x00x\x003\x00out.ppm\x00");
-    run(b"show\x00small.bc7\x005\x00-3\x00out.ppm\x00");
+pub(crate) fn arguments(rt: &HostRuntime) {
+    run(rt, b"");
+    run(rt, b"paint\x00");
+    run(rt, b"help\x00me\x00");
+    run(rt, b"bake\x00small.ppm\x00");
+    run(rt, b"bake\x00small.ppm\x00\x00");
+    run(rt, b"bake\x00none.ppm\x00kept.bc7\x00");
+    run(rt, b"bake\x00.\x00kept.bc7\x00");
+    run(rt, b"bake\x00small.ppm\x00./small.ppm\x00");
+    run(rt, b"measure\x00small.ppm\x00small.bc7\x00--best\x00");
+    run(rt, b"measure\x00small.ppm\x00small.bc7\x00--worst\x000\x00");
+    run(
+        rt,
+        b"measure\x00small.ppm\x00small.bc7\x00--worst\x001001\x00",
+    );
+    run(rt, b"show\x00small.bc7\x005\x00\x00out.ppm\x00");
+    run(rt, b"show\x00small.bc7\x00x\x003\x00out.ppm\x00");
+    run(rt, b"show\x00small.bc7\x005\x00-3\x00out.ppm\x00");
 }

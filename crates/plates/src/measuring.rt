@@ -2,9 +2,7 @@
 ghost use Rattle.std.specs.Prelude.{◌≡◌, ◌+◌, ◌*◌, ◌<◌, ◌≤◌, length};
 ghost use Rattle.plates.specs.Sizes.{Sized, Within};
 
-use crate::compared::{
-    COLUMNS, Counted, Pair, close_pair, measure_next, nothing_counted, open_pair,
-};
+use crate::compared::{COLUMNS, Counted, Pair, measure_next, nothing_counted, open_pair};
 use crate::photo::BAND;
 use crate::plate::ROW;
 use crate::progress::{progress, progress_ended};
@@ -12,12 +10,13 @@ use crate::report::say_figures;
 use crate::said::say;
 use crate::table::{insert_row, put_row, put_worst};
 use groups::across;
+use std::io::Print;
 
 // The most blocks that --worst shows.
 pub const MOST: usize = 1000;
 
 // What is shown before the figures: a line for each block, or for so many of the worst.
-#[derive(Drop)]
+#[derive(Clone, Copy)]
 pub struct Shown {
     pub table: bool,
     pub worst: usize,
@@ -25,6 +24,7 @@ pub struct Shown {
 
 // Shows a row of blocks that is measured, or keeps the worst of them.
 fn show_row(
+    rt: &impl Print,
     measured: bool,
     table: bool,
     row: usize,
@@ -39,7 +39,7 @@ fn show_row(
     let plates: &[u8] = blocks;
     let all: &[u32] = errors;
     if measured && table {
-        put_row(row, &plates[0..b], &all[0..n]);
+        put_row(rt, row, &plates[0..b], &all[0..n]);
     }
     if measured && keys.len() > 0 {
         insert_row(row, &plates[0..b], &all[0..n], keys);
@@ -48,16 +48,17 @@ fn show_row(
 
 // Measures a plate row by row.
 pub(crate) fn measure_rows(
+    rt: &HostRuntime,
     photo_path: &[u8],
     plate_path: &[u8],
-    pair: Pair,
+    pair: &Pair,
     table: bool,
     keys: &mut [u64],
 ) -> Counted
-    requires { Sized pair.photo.width pair.photo.height }
+    requires { Sized pair.now.photo.width pair.now.photo.height }
     ensures { Within result.figures 4096 }
 {
-    let photo = pair.photo;
+    let photo = &pair.photo;
     let n = across(photo.width);
     let rows = across(photo.height);
     let mut band = [0u8; BAND];
@@ -68,9 +69,10 @@ pub(crate) fn measure_rows(
     let mut row: usize = 0;
     while row < rows && state.ok {
         if !table {
-            progress(b"measuring", row, rows);
+            progress(rt, b"measuring", row, rows);
         }
         state = measure_next(
+            rt,
             photo_path,
             plate_path,
             pair,
@@ -81,45 +83,44 @@ pub(crate) fn measure_rows(
             &mut blocks,
             &mut errors,
         );
-        show_row(state.ok, table, row, n, &blocks, &errors, keys);
+        show_row(rt, state.ok, table, row, n, &blocks, &errors, keys);
         row += 1;
     }
     if !table {
-        progress_ended(rows);
+        progress_ended(rt, rows);
     }
     state
 }
 
 // Measures a plate against its photograph and says the figures.
-pub fn measure(photo_path: &[u8], plate_path: &[u8], shown: Shown)
+pub fn measure(rt: &HostRuntime, photo_path: &[u8], plate_path: &[u8], shown: Shown)
     requires { shown.worst ≤ 1000 }
 {
-    let pair = open_pair(photo_path, plate_path);
-    if !pair.ok {
+    let Some(pair) = open_pair(rt, photo_path, plate_path) else {
         return;
-    }
+    };
     if shown.table || shown.worst > 0 {
-        say(b"column row mode partition error\n");
+        say(rt, b"column row mode partition error\n");
     }
     let worst = shown.worst;
     let mut own = [0u64; MOST];
     let keys: &mut [u64] = &mut own;
     let state = measure_rows(
+        rt,
         photo_path,
         plate_path,
-        pair,
+        &pair,
         shown.table,
         &mut keys[0..worst],
     );
-    close_pair(pair);
     if state.ok {
-        let photo = pair.photo;
+        let photo = &pair.photo;
         let columns = across(photo.width);
         let kept = &keys[..];
-        put_worst(&kept[0..worst], columns);
-        say_figures(state.figures, columns as u64);
-        say(b"done: ");
-        say(plate_path);
-        say(b" is measured\n");
+        put_worst(rt, &kept[0..worst], columns);
+        say_figures(rt, state.figures, columns as u64);
+        say(rt, b"done: ");
+        say(rt, plate_path);
+        say(rt, b" is measured\n");
     }
 }

@@ -2,43 +2,56 @@
 ghost use Rattle.io.specs.Counts.{IsPrefixLen};
 ghost use Rattle.plates.specs.Sizes.{Sized};
 
-use crate::inputs::{is_regular, not_negative};
-use crate::said::{fail, fail_by_errno, fail_of, say, say_reason};
+use crate::inputs::{is_regular, open_path, path_text};
+use crate::said::{fail, fail_by, fail_of, say, say_reason};
 use files::{Status, status_of};
+use std::fs::{File, OpenOptions};
+use std::io::{ErrorKind, Print, Write};
+use std::{fs, io, process};
 use text::line::{put, put_decimal};
 use text::ppm::put_header;
 
 // The greatest length of an output's path, which leaves room for the new file's ending.
 const LONGEST: usize = 4000;
 
-// This process's number.
-fn process() -> u64 {
-    let pid = libc::getpid();
-    not_negative(pid as i64)
-}
-
 // Puts the new file's name into a buffer: the output's, this process's number and `.new`.
-fn new_name(path: &[u8], name: &mut [u8; 4096]) -> usize
+fn new_name(rt: &HostRuntime, path: &[u8], name: &mut [u8; 4096]) -> usize
     ensures { IsPrefixLen result name.new }
 {
+    let process = process::id(rt.process());
     let mut at = put(path, name, 0);
     at = put(b".", name, at);
-    at = put_decimal(process(), name, at);
+    at = put_decimal(process as u64, name, at);
     put(b".new", name, at)
 }
 
-// Whether two descriptors are known to be of one file.
+// Whether two open files are known to be one file.
 fn same_file(a: Status, b: Status) -> bool {
     a.ok && b.ok && a.device == b.device && a.inode == b.inode
 }
 
+// Whether a file is this input, where there is one.
+fn is_input(old: Status, input: Option<&File>) -> bool {
+    match input {
+        Some(file) => same_file(old, status_of(file)),
+        None => false,
+    }
+}
+
 // Whether the file under an output's name may be replaced: a regular one, and none of the two inputs.
-fn old_replaceable(path: &[u8], old: Status, first: i32, second: i32) -> bool {
-    if !is_regular(path, old) {
+fn old_replaceable(
+    rt: &impl Print,
+    path: &[u8],
+    old: Status,
+    first: &File,
+    second: Option<&File>,
+) -> bool {
+    if !is_regular(rt, path, old) {
         return false;
     }
-    if same_file(old, status_of(first)) || same_file(old, status_of(second)) {
+    if same_file(old, status_of(first)) || is_input(old, second) {
         fail(
+            rt,
             path,
             b"is an input too; expected another name for the output",
         );
@@ -48,88 +61,115 @@ fn old_replaceable(path: &[u8], old: Status, first: i32, second: i32) -> bool {
 }
 
 // Whether an output may get its name: there is no file of it, or one that may be replaced.
-fn replaceable(path: &[u8], first: i32, second: i32) -> bool {
-    let fd = os::open_read(path);
-    if fd < 0 && os::errno() == libc::ENOENT {
-        return true;
+fn replaceable(rt: &HostRuntime, path: &[u8], first: &File, second: Option<&File>) -> bool {
+    match open_path(rt, path) {
+        Ok(old) => old_replaceable(rt, path, status_of(&old), first, second),
+        Err(error) if error.kind() == ErrorKind::NotFound => true,
+        Err(error) => {
+            fail_by(rt, path, b"cannot be replaced", error);
+            false
+        }
     }
-    if fd < 0 {
-        fail_by_errno(path, b"cannot be replaced");
-        return false;
-    }
-    let answer = old_replaceable(path, status_of(fd), first, second);
-    libc::close(fd);
-    answer
 }
 
 // The line of a new file that cannot be made.
-fn fail_new(path: &[u8], name: &[u8], error: i32) {
-    fail_of(path);
-    say(b"cannot be written, since ");
-    say(name);
-    say(b" cannot be made: ");
-    say_reason(error);
-    say(b"\n");
+fn fail_new(rt: &impl Print, path: &[u8], name: &[u8], error: io::Error) {
+    fail_of(rt, path);
+    say(rt, b"cannot be written, since ");
+    say(rt, name);
+    say(rt, b" cannot be made: ");
+    say_reason(rt, error);
+    say(rt, b"\n");
 }
 
-// Makes the new file, and answers its descriptor, or -1 after the line of a mistake. The descriptors are the inputs'.
-pub fn create(path: &[u8], first: i32, second: i32) -> i32 {
+// Makes a file that is not there yet.
+fn create_new(rt: &HostRuntime, name: &[u8]) -> io::Result<File> {
+    OpenOptions::new()
+        .write(true)
+        .create_new(true)
+        .open(rt, path_text(name)?)
+}
+
+// Makes the new file, or answers none after the line of a mistake. The open files are the inputs.
+pub fn create(rt: &HostRuntime, path: &[u8], first: &File, second: Option<&File>) -> Option<File> {
     if path.len() > LONGEST {
-        fail(path, b"is too long a name; expected at most 4000 bytes");
-        return -1;
+        fail(rt, path, b"is too long a name; expected at most 4000 bytes");
+        return None;
     }
-    if !replaceable(path, first, second) {
-        return -1;
+    if !replaceable(rt, path, first, second) {
+        return None;
     }
-    let mut name = io::buffer();
-    let n = new_name(path, &mut name);
-    let fd = os::create(&name[..n]);
-    if fd < 0 {
-        fail_new(path, &name[..n], os::errno());
+    let mut name = [0u8; 4096];
+    let n = new_name(rt, path, &mut name);
+    match create_new(rt, &name[..n]) {
+        Ok(out) => Some(out),
+        Err(error) => {
+            fail_new(rt, path, &name[..n], error);
+            None
+        }
     }
-    fd
 }
 
 // Writes to the new file, or says that it cannot.
-pub fn write(path: &[u8], fd: i32, bytes: &[u8]) -> bool {
-    if io::write_all(fd, bytes) {
-        return true;
+pub fn write(rt: &impl Print, path: &[u8], mut out: &File, bytes: &[u8]) -> bool {
+    match out.write_all(bytes) {
+        Ok(()) => true,
+        Err(error) => {
+            fail_by(rt, path, b"cannot be written", error);
+            false
+        }
     }
-    fail_by_errno(path, b"cannot be written");
-    false
+}
+
+// Removes the file of a path, where there is one.
+fn remove(rt: &HostRuntime, path: &[u8]) {
+    if let Ok(text) = path_text(path) {
+        let _ = fs::remove_file(rt, text);
+    }
 }
 
 // Removes the new file after a mistake.
-pub fn discard(path: &[u8], fd: i32) {
-    let mut name = io::buffer();
-    let n = new_name(path, &mut name);
-    libc::close(fd);
-    os::unlink(&name[..n]);
+pub fn discard(rt: &HostRuntime, path: &[u8], out: File) {
+    let mut name = [0u8; 4096];
+    let n = new_name(rt, path, &mut name);
+    drop(out);
+    remove(rt, &name[..n]);
+}
+
+// Renames a file.
+fn rename(rt: &HostRuntime, from: &[u8], to: &[u8]) -> io::Result<()> {
+    fs::rename(rt, path_text(from)?, path_text(to)?)
 }
 
 // Gives the new file the output's name once all of it has reached its device.
-pub fn keep(path: &[u8], fd: i32) -> bool {
-    let mut name = io::buffer();
-    let n = new_name(path, &mut name);
-    if libc::fsync(fd) != 0 {
-        fail_by_errno(path, b"cannot be written");
-        discard(path, fd);
+pub fn keep(rt: &HostRuntime, path: &[u8], out: File) -> bool {
+    let mut name = [0u8; 4096];
+    let n = new_name(rt, path, &mut name);
+    if let Err(error) = out.sync_all() {
+        fail_by(rt, path, b"cannot be written", error);
+        discard(rt, path, out);
         return false;
     }
-    libc::close(fd);
-    if os::rename(&name[..n], path) != 0 {
-        fail_by_errno(path, b"cannot be replaced");
-        os::unlink(&name[..n]);
+    drop(out);
+    if let Err(error) = rename(rt, &name[..n], path) {
+        fail_by(rt, path, b"cannot be replaced", error);
+        remove(rt, &name[..n]);
         return false;
     }
     true
 }
 
 // Writes the header of a picture.
-pub(crate) fn write_header(path: &[u8], fd: i32, width: usize, height: usize) -> bool
+pub(crate) fn write_header(
+    rt: &impl Print,
+    path: &[u8],
+    out: &File,
+    width: usize,
+    height: usize,
+) -> bool
     requires { Sized width height }
 {
     let mut bytes = [0u8; 32];
     let n = put_header(width, height, &mut bytes, 0);
-    write(path, fd, &bytes[..n])
+    write(rt, path, out, &bytes[..n])
 }

@@ -6,10 +6,11 @@ use crate::said::{say, say_number};
 use figures::Figures;
 use figures::mean::mean;
 use groups::number_at;
+use std::io::Print;
 use text::line::put_thousandths;
 
 // Where a block stands: its number, counted row by row, its column and its row.
-#[derive(Drop)]
+#[derive(Clone, Copy)]
 pub struct Place {
     number: u64,
     column: u64,
@@ -28,37 +29,37 @@ pub fn place_at(row: usize, columns: usize, column: usize) -> Place
 }
 
 // A column and a row.
-fn say_place(column: u64, row: u64) {
-    say(b"column ");
-    say_number(column);
-    say(b", row ");
-    say_number(row);
+fn say_place(rt: &impl Print, column: u64, row: u64) {
+    say(rt, b"column ");
+    say_number(rt, column);
+    say(rt, b", row ");
+    say_number(rt, row);
 }
 
 // A block's number and place.
-pub fn say_block(place: Place) {
-    say(b"block ");
-    say_number(place.number);
-    say(b" (");
-    say_place(place.column, place.row);
-    say(b")");
+pub fn say_block(rt: &impl Print, place: Place) {
+    say(rt, b"block ");
+    say_number(rt, place.number);
+    say(rt, b" (");
+    say_place(rt, place.column, place.row);
+    say(rt, b")");
 }
 
 // How many blocks there are, the sum of their errors, the worst, and the mean squared error per channel.
-pub fn say_figures(f: Figures, columns: u64)
+pub fn say_figures(rt: &impl Print, f: Figures, columns: u64)
     requires { (0 < columns) × Within f 4096 }
 {
     let mut text = [0u8; 32];
     let n = put_thousandths(mean(f), &mut text, 0);
-    say(b"blocks ");
-    say_number(f.blocks);
-    say(b"\ntotal ");
-    say_number(f.total);
-    say(b"\nworst ");
-    say_number(f.worst as u64);
-    say(b" at ");
-    say_place(f.place % columns, f.place / columns);
-    say(b"\nmean squared error per channel ");
-    say(&text[..n]);
-    say(b"\n");
+    say(rt, b"blocks ");
+    say_number(rt, f.blocks);
+    say(rt, b"\ntotal ");
+    say_number(rt, f.total);
+    say(rt, b"\nworst ");
+    say_number(rt, f.worst as u64);
+    say(rt, b" at ");
+    say_place(rt, f.place % columns, f.place / columns);
+    say(rt, b"\nmean squared error per channel ");
+    say(rt, &text[..n]);
+    say(rt, b"\n");
 }

@@ -12,20 +12,23 @@ use crate::report::place_at;
 use crate::said::say;
 use figures::row::read_row;
 use groups::{across, picture_bytes, put_back, rows_in};
+use std::fs::File;
+use std::io::Print;
 
 // The size of the picture, the plate and the new file.
-#[derive(Drop)]
-struct Job {
+#[derive(Clone, Copy)]
+struct Job<'a> {
     width: usize,
     height: usize,
-    plate: Plate,
-    out: i32,
+    plate: &'a Plate,
+    out: &'a File,
 }
 
 // Writes the rows of pixels that a row of groups has.
 fn write_band(
+    rt: &impl Print,
     path: &[u8],
-    out: i32,
+    out: &File,
     width: usize,
     rows: usize,
     groups: &[u8],
@@ -38,13 +41,14 @@ fn write_band(
     let bytes: &mut [u8] = band;
     put_back(groups, width, rows, &mut bytes[0..m]);
     let written = &bytes[..];
-    write(path, out, &written[0..m])
+    write(rt, path, out, &written[0..m])
 }
 
 // Reads a row of blocks, and the groups of pixels that it shows.
 fn read_shown(
+    rt: &impl Print,
     path: &[u8],
-    fd: i32,
+    file: &File,
     row: usize,
     n: usize,
     blocks: &mut [u8; ROW],
@@ -54,13 +58,13 @@ fn read_shown(
 {
     let b = n * 16;
     let plates: &mut [u8] = blocks;
-    if !read_blocks(path, fd, &mut plates[0..b]) {
+    if !read_blocks(rt, path, file, &mut plates[0..b]) {
         return false;
     }
     let read = &plates[..];
     let shown = read_row(&read[0..b], groups, n);
     if shown.refusal != 0 {
-        fail_block(path, shown.refusal, place_at(row, n, shown.at));
+        fail_block(rt, path, shown.refusal, place_at(row, n, shown.at));
         return false;
     }
     true
@@ -68,9 +72,10 @@ fn read_shown(
 
 // Reads a row of blocks and writes the rows of pixels that it shows.
 fn show_next(
+    rt: &impl Print,
     plate_path: &[u8],
     out_path: &[u8],
-    job: Job,
+    job: Job<'_>,
     row: usize,
     blocks: &mut [u8; ROW],
     groups: &mut [u8; BAND],
@@ -83,27 +88,36 @@ fn show_next(
     let n = across(width);
     let g = n * 48;
     let pixels: &mut [u8] = groups;
-    if !read_shown(plate_path, plate.fd, row, n, blocks, &mut pixels[0..g]) {
+    if !read_shown(
+        rt,
+        plate_path,
+        &plate.file,
+        row,
+        n,
+        blocks,
+        &mut pixels[0..g],
+    ) {
         return false;
     }
     let cut = &pixels[..];
     let rows = rows_in(job.height, row);
-    write_band(out_path, job.out, width, rows, &cut[0..g], band)
+    write_band(rt, out_path, job.out, width, rows, &cut[0..g], band)
 }
 
 // Shows a plate row by row.
-fn show_rows(plate_path: &[u8], out_path: &[u8], job: Job) -> bool
+fn show_rows(rt: &HostRuntime, plate_path: &[u8], out_path: &[u8], job: Job<'_>) -> bool
     requires { Sized job.width job.height }
 {
     let rows = across(job.height);
     let mut blocks = [0u8; ROW];
     let mut groups = [0u8; BAND];
     let mut band = [0u8; BAND];
-    let mut ok = write_header(out_path, job.out, job.width, job.height);
+    let mut ok = write_header(rt, out_path, job.out, job.width, job.height);
     let mut row: usize = 0;
     while row < rows && ok {
-        progress(b"showing", row, rows);
+        progress(rt, b"showing", row, rows);
         ok = show_next(
+            rt,
             plate_path,
             out_path,
             job,
@@ -114,43 +128,47 @@ fn show_rows(plate_path: &[u8], out_path: &[u8], job: Job) -> bool
         );
         row += 1;
     }
-    progress_ended(rows);
+    progress_ended(rt, rows);
     ok
 }
 
 // Writes the picture that an open plate shows.
-fn show_plate(plate_path: &[u8], plate: Plate, width: usize, height: usize, out_path: &[u8])
+fn show_plate(
+    rt: &HostRuntime,
+    plate_path: &[u8],
+    plate: &Plate,
+    width: usize,
+    height: usize,
+    out_path: &[u8],
+)
     requires { Sized width height }
 {
-    let out = create(out_path, plate.fd, -1);
-    if out < 0 {
+    let Some(out) = create(rt, out_path, &plate.file, None) else {
         return;
-    }
+    };
     let job = Job {
         width,
         height,
         plate,
-        out,
+        out: &out,
     };
-    if !show_rows(plate_path, out_path, job) {
-        discard(out_path, out);
-    } else if keep(out_path, out) {
-        say(b"done: ");
-        say(out_path);
-        say(b" is written\n");
+    if !show_rows(rt, plate_path, out_path, job) {
+        discard(rt, out_path, out);
+    } else if keep(rt, out_path, out) {
+        say(rt, b"done: ");
+        say(rt, out_path);
+        say(rt, b" is written\n");
     }
 }
 
 // Writes the picture that a plate of this size shows.
-pub fn show(plate_path: &[u8], width: usize, height: usize, out_path: &[u8])
+pub fn show(rt: &HostRuntime, plate_path: &[u8], width: usize, height: usize, out_path: &[u8])
     requires { Sized width height }
 {
-    let plate = open_plate(plate_path);
-    if !plate.ok {
+    let Some(plate) = open_plate(rt, plate_path) else {
         return;
+    };
+    if fits(rt, plate_path, &plate, width, height) {
+        show_plate(rt, plate_path, &plate, width, height, out_path);
     }
-    if fits(plate_path, plate, width, height) {
-        show_plate(plate_path, plate, width, height, out_path);
-    }
-    libc::close(plate.fd);
 }

@@ -6,6 +6,7 @@ use crate::said::say;
 use block::Reading;
 use figures::worst::{insert, key, key_error, key_mode, key_number, key_partition};
 use groups::number_at;
+use std::io::Print;
 use text::line::{put, put_decimal};
 
 // The bytes of lines that are written at once.
@@ -39,7 +40,7 @@ fn put_entry(
 }
 
 // Writes the lines where there is no room for one more, and answers where the next begins.
-pub(crate) fn flushed(text: &[u8; TEXT], at: usize) -> usize
+pub(crate) fn flushed(rt: &impl Print, text: &[u8; TEXT], at: usize) -> usize
     requires { IsPrefixLen at text.now }
     ensures { IsPrefixLen result text.now }
 {
@@ -47,7 +48,7 @@ pub(crate) fn flushed(text: &[u8; TEXT], at: usize) -> usize
         return at;
     }
     let lines: &[u8] = text;
-    say(&lines[..at]);
+    say(rt, &lines[..at]);
     0
 }
 
@@ -63,7 +64,7 @@ fn fields(block: &[u8]) -> Reading {
 }
 
 // The lines of a row of blocks.
-pub(crate) fn put_row(row: usize, blocks: &[u8], errors: &[u32])
+pub(crate) fn put_row(rt: &impl Print, row: usize, blocks: &[u8], errors: &[u32])
     requires { (length blocks.now ≡ 16 * length errors.now) × (length errors.now ≤ 4096) }
 {
     let mut text = [0u8; TEXT];
@@ -82,10 +83,10 @@ pub(crate) fn put_row(row: usize, blocks: &[u8], errors: &[u32])
             f.partition as u64,
             wide(errors[k]),
         );
-        at = flushed(&text, at);
+        at = flushed(rt, &text, at);
         k += 1;
     }
-    say(&text[..at]);
+    say(rt, &text[..at]);
 }
 
 // Keeps the worst of a row of blocks.
@@ -122,7 +123,7 @@ fn put_key(text: &mut [u8; TEXT], at: usize, key: u64, columns: u64) -> usize
 }
 
 // The lines of the worst blocks, the worst first.
-pub(crate) fn put_worst(keys: &[u64], columns: usize)
+pub(crate) fn put_worst(rt: &impl Print, keys: &[u64], columns: usize)
     requires { 0 < columns }
 {
     let mut text = [0u8; TEXT];
@@ -130,8 +131,8 @@ pub(crate) fn put_worst(keys: &[u64], columns: usize)
     let mut i: usize = 0;
     while i < keys.len() && keys[i] != 0 {
         at = put_key(&mut text, at, keys[i], columns as u64);
-        at = flushed(&text, at);
+        at = flushed(rt, &text, at);
         i += 1;
     }
-    say(&text[..at]);
+    say(rt, &text[..at]);
 }

@@ -20,7 +20,7 @@ Finishes px c block error = ((finish_of px c part).refusal ≡ 0) × ((finish_of
 abbrev pub Measures : List ℕ → List ℕ → ℕ → Type 0
 Measures px block error = ((measure_of block px).refusal ≡ 0) × ((measure_of block px).error ≡ error)
 
--- packing a candidate's fields with p_bits and indices
+-- packing a candidate's fields with p-bits and indices
 abbrev pub Packs : Candidate → ℕ → List ℕ → List ℕ → Type 0
 Packs c p indices block =
     let f : Fields = record { partition = c.partition; ends = c.ends; p = p; indices = indices } in

@@ -35,7 +35,7 @@ pub(crate) fn measures(pixels: &[u8], block: &[u8], error: u32) -> bool
     agrees(m.refusal, m.error, error)
 }
 
-// Packing a candidate's fields with p_bits and indices declines nothing, and gives this block.
+// Packing a candidate's fields with p-bits and indices declines nothing, and gives this block.
 pub(crate) fn packs(c: Candidate, p: u8, indices: [u8; 16], block: &[u8]) -> bool
     ensures { result ≡ true → Packs c p indices block.now }
 {

@@ -1,16 +1,17 @@
 // Groups of recorded answers: 48 bytes of pixels, sixteen entries, and what choosing over their candidates in order ends with, a block
 // and its error. An entry has 60 bytes: a candidate (16), the finished block (16) and its error (4), indices (8) and the block (16)
 // that packing the candidate's fields with them gives.
-ghost use Rattle.std.specs.Prelude.{◌≡◌, length};
+ghost use Rattle.std.specs.Prelude.{◌≡◌, ◌≤◌, length, IfOk};
 
 use crate::calls::{finishes, measures, packs, takes};
 use crate::recording::indices;
 use crate::tally::{Tally, counted, marked, none};
 use block::Candidate;
 use chooser::Chooser;
-use libc::STDIN_FILENO;
 use proposals::records::candidate;
 use reading::number;
+use std::io;
+use std::io::Read;
 
 // The bytes of a group.
 const GROUP: usize = 1028;
@@ -22,14 +23,14 @@ const ENTRIES: usize = 16;
 const ENTRY: usize = 60;
 
 // The chooser within a group, and all that was counted so far.
-#[derive(Drop)]
+#[derive(Clone, Copy)]
 struct Run {
     chooser: Chooser,
     tally: Tally,
 }
 
 // What was counted, and how many bytes were read last.
-#[derive(Drop)]
+#[derive(Clone, Copy)]
 pub(crate) struct Replayed {
     pub(crate) tally: Tally,
     pub(crate) got: usize,
@@ -94,29 +95,44 @@ fn replay_group(tally: Tally, group: &[u8]) -> Tally
     all
 }
 
+// Reads until the buffer is full or the input ends, and gives how many bytes came.
+fn read_full(input: &mut impl Read, buffer: &mut [u8]) -> io::Result<usize>
+    ensures { IfOk result (λ got. got ≤ length buffer.old) }
+{
+    let mut got: usize = 0;
+    while got < buffer.len() {
+        let more = input.read(&mut buffer[got..])?;
+        if more == 0 {
+            break;
+        }
+        got += more;
+    }
+    Ok(got)
+}
+
 // Reads the next group, and replays it where it is whole.
-fn replay_next(tally: Tally) -> Replayed {
+fn replay_next(input: &mut impl Read, tally: Tally) -> io::Result<Replayed> {
     let mut group = [0u8; GROUP];
-    let got = io::read_full(STDIN_FILENO, &mut group);
+    let got = read_full(input, &mut group)?;
     if got == GROUP {
-        return Replayed {
+        return Ok(Replayed {
             tally: replay_group(tally, &group),
             got,
-        };
+        });
     }
-    Replayed { tally, got }
+    Ok(Replayed { tally, got })
 }
 
 // Replays groups until the input ends. Nothing says that it does, so the turns are counted down from a number that no run uses up.
-pub(crate) fn replay() -> Replayed {
+pub(crate) fn replay(input: &mut impl Read) -> io::Result<Replayed> {
     let mut all = Replayed {
         tally: none(),
         got: GROUP,
     };
     let mut turns = u64::MAX;
     while turns > 0 && all.got == GROUP {
-        all = replay_next(all.tally);
+        all = replay_next(input, all.tally)?;
         turns -= 1;
     }
-    all
+    Ok(all)
 }

@@ -1,37 +1,37 @@
 // Writing what was counted.
 use crate::tally::{CELLS, Count, Tally, seen};
-use libc::STDOUT_FILENO;
+use std::io;
 
 // Writes a text.
-pub(crate) fn say(text: &[u8]) {
-    io::write_all(STDOUT_FILENO, text);
+pub(crate) fn say(rt: &impl Print, text: &[u8]) -> io::Result<()> {
+    rt.write_all(text)
 }
 
 // Writes a number.
-fn put(n: u64) {
-    io::print_decimal(STDOUT_FILENO, n);
+fn put(rt: &impl Print, n: u64) -> io::Result<()> {
+    rt.print(n)
 }
 
 // The line of a call.
-fn put_count(call: &[u8], n: Count) {
-    say(call);
-    say(b": ");
-    put(n.answers);
-    say(b" answers, ");
-    put(n.differ);
-    say(b" differ\n");
+fn put_count(rt: &impl Print, call: &[u8], n: Count) -> io::Result<()> {
+    say(rt, call)?;
+    say(rt, b": ")?;
+    put(rt, n.answers)?;
+    say(rt, b" answers, ")?;
+    put(rt, n.differ)?;
+    say(rt, b" differ\n")
 }
 
 // The line of each call, and that of the cells.
-pub(crate) fn put_tally(tally: Tally) {
-    put_count(b"finish", tally.finish);
-    put_count(b"measure", tally.measure);
-    put_count(b"pack", tally.pack);
-    put_count(b"choose", tally.choose);
+pub(crate) fn put_tally(rt: &impl Print, tally: Tally) -> io::Result<()> {
+    put_count(rt, b"finish", tally.finish)?;
+    put_count(rt, b"measure", tally.measure)?;
+    put_count(rt, b"pack", tally.pack)?;
+    put_count(rt, b"choose", tally.choose)?;
     let cells = tally.cells;
-    say(b"cells: ");
-    put(seen(&cells));
-    say(b" of ");
-    put(CELLS as u64);
-    say(b"\n");
+    say(rt, b"cells: ")?;
+    put(rt, seen(&cells))?;
+    say(rt, b" of ")?;
+    put(rt, CELLS as u64)?;
+    say(rt, b"\n")
 }

@@ -1,4 +1,4 @@
-// Counting answers, and the cells that the candidates lie in: mode 1 or 3, partition, p_bits fixed or free.
+// Counting answers, and the cells that the candidates lie in: mode 1 or 3, partition, p-bits fixed or free.
 ghost use Rattle.std.specs.Prelude.{◌≡◌, ◌≤◌, length};
 ghost use Rattle.rust_answers.specs.Counting.{counted_of};
 
@@ -8,14 +8,14 @@ use std::num::wrapping_add_u64;
 pub(crate) const CELLS: usize = 256;
 
 // How many answers there were, and how many of them differ.
-#[derive(Drop)]
+#[derive(Clone, Copy)]
 pub(crate) struct Count {
     pub(crate) answers: u64,
     pub(crate) differ: u64,
 }
 
 // The counts of each call, and 1 for each cell that was seen.
-#[derive(Drop)]
+#[derive(Clone, Copy)]
 pub(crate) struct Tally {
     pub(crate) finish: Count,
     pub(crate) measure: Count,

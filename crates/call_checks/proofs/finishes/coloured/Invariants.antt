@@ -1,0 +1,11 @@
+-- `call_checks::finishes::coloured` meets its contract.
+use Prim.Native.Nat.{◌-◌, ◌≤◌}
+use mathlib.Core.Path.{◌≡◌}
+use lib.ListN.{length}
+use Rattle.call_checks.proofs.finishes.coloured.Given as goal
+
+abbrev pub invariant-loop-i : goal.invariant-loop-i
+invariant-loop-i l = (l.i ≤ 48) × (length l.out ≡ 48)
+
+abbrev pub decreases-loop-i : goal.decreases-loop-i
+decreases-loop-i l = 48 - l.i

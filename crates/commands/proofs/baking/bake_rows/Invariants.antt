@@ -1,0 +1,10 @@
+-- The loop of `bake_rows`: the figures are those of so many rows.
+use Rattle.std.proofs.Common.{◌-◌, ◌≤◌}
+use Rattle.plates.specs.Sizes.{Within}
+use Rattle.commands.proofs.baking.bake_rows.Given as goal
+
+abbrev pub invariant-loop-row : goal.invariant-loop-row
+invariant-loop-row l = record { few : l.row ≤ l.rows; within : Within l.state.figures l.row }
+
+abbrev pub decreases-loop-row : goal.decreases-loop-row
+decreases-loop-row l = l.rows - l.row
