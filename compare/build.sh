@@ -1,4 +1,5 @@
-# What the commands of this folder share: the items of the Rust, the library and the programs, made under target.
+# What the commands of this folder share: the items of the Rust and the programs of this folder, made under target/compare, and the
+# library and bc7, which rt makes in out/ of their crates.
 
 root=$(cd "$(dirname "${BASH_SOURCE[0]}")/.." && pwd)
 out=$root/target/compare
@@ -16,23 +17,23 @@ cut_items() {
     python3 "$root/compare/cut.py" "$1" "$out/cut.rs"
 }
 
-# Runs rt on a crate in the repository's root; its output goes to a log.
+# Runs rt in a crate's folder; its output goes to a log.
 run_rt() {
     local log=$out/$1.log
-    (cd "$root" && rt "$@") >"$log" 2>&1 || fail 1 "rt $* failed: see $log"
+    (cd "$root/crates/$1" && rt "${@:2}") >"$log" 2>&1 || fail 1 "rt ${*:2} failed in crates/$1: see $log"
 }
 
 # Sets lib to the library, which is made unless BC7_LIB names one.
 make_library() {
-    lib=${BC7_LIB:-$root/target/staticlib/libbc7_c.a}
-    [ -n "${BC7_LIB:-}" ] || run_rt staticlib bc7_c
+    lib=${BC7_LIB:-$root/crates/bc7_c/out/libbc7_c.a}
+    [ -n "${BC7_LIB:-}" ] || run_rt bc7_c lib
     [ -f "$lib" ] || fail 1 "$lib: no such library"
 }
 
 # Sets program to bc7, which is made unless BC7 names one.
 make_program() {
-    program=${BC7:-$root/target/bin/bc7}
-    [ -n "${BC7:-}" ] || run_rt check bc7
+    program=${BC7:-$root/crates/bc7/out/bc7}
+    [ -n "${BC7:-}" ] || run_rt bc7 run -- help
     [ -f "$program" ] && [ -x "$program" ] || fail 1 "$program: no such program"
     program=$(realpath -- "$program")
 }

@@ -1,4 +1,4 @@
-/* BC7 blocks of modes 1 and 3: the calls of libbc7_c.a, which `rt staticlib bc7_c` proves and writes.
+/* BC7 blocks of modes 1 and 3: the calls of libbc7_c.a, which `rt lib` in crates/bc7_c proves and writes.
 
    A part is a pointer and its length in bytes, with as many bytes behind it; a part that a call writes must not overlap another, and
    one of length 0 may be NULL. Any length and any number is answered: by 0, or by the first of these refusals that applies, and then
