@@ -6,6 +6,7 @@ ghost use Rattle.std.specs.Prelude.{◌≡◌, ◌<◌};
 ghost use Rattle.bptc.specs.Partition.{mask_of, subset_of, anchor_of, size_of, entry_of};
 
 // The mask of a partition: bit i is the subset of pixel i.
+#[tactic(auto, unfolding(bptc::specs::Partition::masks, bptc::specs::Partition::mask_of))]
 pub fn mask(partition: usize) -> u16
     ensures { result ≡ mask_of partition }
 {
@@ -88,6 +89,7 @@ pub fn subset(partition: usize, pixel: usize) -> u8
 }
 
 // The anchor pixel of subset 1, as a byte.
+#[tactic(auto, unfolding(bptc::specs::Partition::anchors, bptc::specs::Partition::anchor_of))]
 fn anchor_byte(partition: usize) -> u8
     ensures { result ≡ anchor_of partition }
 {
@@ -177,6 +179,7 @@ pub fn size(partition: usize) -> u32
 }
 
 // The indices of two bits: all ones at the pixels of subset 1, and its anchor above them. Requires a partition of the table.
+#[tactic(auto, unfolding(bptc::specs::Partition::masks, bptc::specs::Partition::anchors, bptc::specs::Partition::mask_of, bptc::specs::Partition::subset_of, bptc::specs::Partition::anchor_of, bptc::specs::Partition::ones_of, bptc::specs::Partition::entry_of, lists::specs::Bits::join))]
 pub fn entry2(partition: usize) -> u64
     requires { partition < 64 }
     ensures { result ≡ entry_of 2 partition }
@@ -251,6 +254,7 @@ pub fn entry2(partition: usize) -> u64
 }
 
 // The indices of three bits: all ones at the pixels of subset 1, and its anchor above them. Requires a partition of the table.
+#[tactic(auto, unfolding(bptc::specs::Partition::masks, bptc::specs::Partition::anchors, bptc::specs::Partition::mask_of, bptc::specs::Partition::subset_of, bptc::specs::Partition::anchor_of, bptc::specs::Partition::ones_of, bptc::specs::Partition::entry_of, lists::specs::Bits::join))]
 pub fn entry3(partition: usize) -> u64
     requires { partition < 64 }
     ensures { result ≡ entry_of 3 partition }
