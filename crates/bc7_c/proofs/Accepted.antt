@@ -1,8 +1,8 @@
 -- What the checks accept of the numbers of C, and the words that these then are.
-use Prim.Native.Nat.{ℕ, ◌-◌, ◌*◌, ◌^◌, ◌<◌}
+use Prim.Native.Nat.{ℕ, ◌-◌, ◌^◌, ◌<◌}
 use native.Mathlib.Nat.{lt_of_lt_of_le}
 use native.Mathlib.Omega.{arith}
-use mathlib.Core.Path.{◌≡◌, refl, ap, ap₂}
+use mathlib.Core.Path.{◌≡◌, refl, ap}
 use mathlib.Core.Logic.{inl, inr}
 use mathlib.Core.List.{List, [], ◌∷◌, map}
 use lib.Dec.{T, lit<, eqb, leb, leb→le}
@@ -17,13 +17,11 @@ use Rattle.bptc.proofs.ColourBounds.{rgb_eq}
 use Rattle.bptc_block.specs.declared.Fields.{Fields}
 use Rattle.bptc_block.specs.Fields.{Plain, p_bits_of, word_fields, word_candidate}
 use Rattle.bptc_block.specs.PackCall.{pack_of}
+use Rattle.bptc_block.proofs.Modes.{numbered}
 use Rattle.bptc_block.proofs.Refusals.{Good}
 use Rattle.bptc_block.proofs.PackCall.{pack_good, pack_plain}
 use Rattle.bptc_block.proofs.WordEnds.{channel-byte}
-use Rattle.bptc_rust.specs.IndexList.{index_list}
-use Rattle.bptc_rust.proofs.WordFields.{few_bits, list_small}
-use Rattle.bptc_rust.proofs.Digits.{Small, split-length, list_split}
-use Rattle.bptc_rust.proofs.Compressing.{plain_small}
+use Rattle.bptc_rust.proofs.Digits.{split-length}
 use Rattle.bc7_c.specs.Numbers.{end_of, ends_of, indices_of, packed_of, candidate_of}
 
 -- the number of a mode is a byte
@@ -46,13 +44,13 @@ pub record Bytewise (mode partition e0 e1 e2 e3 p free : ℕ) : Type 0 where
   pub partition-byte : partition < 256
   pub p-byte : free ≡ 0 → p < 256
   pub ends : map pixel_of (e0 ∷ (e1 ∷ (e2 ∷ (e3 ∷ [])))) ≡ ends_of e0 e1 e2 e3
-  pub same : word_candidate mode partition (e0 ∷ (e1 ∷ (e2 ∷ (e3 ∷ [])))) (p_bits_of p free) ≡ candidate_of mode partition e0 e1 e2 e3 p free
+  pub same : word_candidate (record { mode = mode; partition = partition; ends = e0 ∷ (e1 ∷ (e2 ∷ (e3 ∷ []))); p = p_bits_of p free }) ≡ candidate_of mode partition e0 e1 e2 e3 p free
 
 module _ (mode partition e0 e1 e2 e3 p free : ℕ) (fit : Good (candidate_of mode partition e0 e1 e2 e3 p free)) where
   pixel : (k e : ℕ) → k < 4 → get_or (ends_of e0 e1 e2 e3) k black ≡ end_of e → pixel_of e ≡ end_of e
   pixel k e h at =
       let b : Below (2 ^ (mode_numbered mode).channel_bits) (end_of e) = rw at at (fit.stored k h) in
-      end_pixel e (lt_of_lt_of_le b.b (channel-byte mode))
+      end_pixel e (lt_of_lt_of_le b.b (channel-byte (mode_numbered mode) (numbered mode)))
 
   fixed-byte : free ≡ 0 → p < 256
   fixed-byte e =
@@ -79,14 +77,10 @@ pub record Accepted (mode partition e0 e1 e2 e3 p indices : ℕ) : Type 0 where
   pub mode-byte : mode < 256
   pub partition-byte : partition < 256
   pub p-byte : p < 256
-  -- the fields are in range, and so are the indices
+  -- the fields are in range
   pub plain : Plain (mode_numbered mode) (packed_of partition e0 e1 e2 e3 p indices)
-  pub small : Small (mode_numbered mode).index_bits (indices_of indices)
-  -- words stand for the fields, and their list has no more bits than the indices
-  pub words : word_fields (mode_numbered mode).index_bits
-      (record { partition = partition; ends = e0 ∷ (e1 ∷ (e2 ∷ (e3 ∷ []))); p = p; indexes = index_list (mode_numbered mode).index_bits (indices_of indices) })
-      ≡ packed_of partition e0 e1 e2 e3 p indices
-  pub list : index_list (mode_numbered mode).index_bits (indices_of indices) < 2 ^ (16 * (mode_numbered mode).index_bits)
+  -- and words stand for them
+  pub words : word_fields 4 (record { partition = partition; ends = e0 ∷ (e1 ∷ (e2 ∷ (e3 ∷ []))); p = p; indexes = indices }) ≡ packed_of partition e0 e1 e2 e3 p indices
 
 module _ (mode partition e0 e1 e2 e3 p indices : ℕ) (part : List ℕ) (ok : pack_of mode (packed_of partition e0 e1 e2 e3 p indices) part ≡ 0) where
   abbrev m : Mode
@@ -101,16 +95,11 @@ module _ (mode partition e0 e1 e2 e3 p indices : ℕ) (part : List ℕ) (ok : pa
   -- they are so
   pub accept : Accepted mode partition e0 e1 e2 e3 p indices
   accept =
-      let small : Small m.index_bits (indices_of indices) = plain_small m f in_range_lem in
       let b : Bytewise mode partition e0 e1 e2 e3 p 0 = bytewise mode partition e0 e1 e2 e3 p 0 (pack_good mode f part ok) in
       record {
         mode-byte = b.mode-byte;
         partition-byte = b.partition-byte;
         p-byte = b.p-byte refl;
         plain = in_range_lem;
-        small = small;
-        words =
-            ap₂ (λ (es : List Rgb) (is : List ℕ). record { partition = partition; ends = es; p = p; indices = is }) b.ends
-            (list_split m.index_bits (few_bits mode) (indices_of indices) (split-length 16 4 indices) small);
-        list = list_small mode f in_range_lem;
+        words = ap (λ (es : List Rgb). record { partition = partition; ends = es; p = p; indices = indices_of indices }) b.ends;
       }

@@ -1,9 +1,14 @@
 -- Refusal and error are got back from an answer.
 use Prim.Native.Nat.{ℕ}
 use native.Mathlib.Omega.{arith}
+use mathlib.Core.Path.{◌≡◌, refl}
 use lib.ListN.{length}
 use borrow.Author.Tests.{eq-eqb, ne_eqb}
-use Rattle.bc7_c.specs.Numbers.{answered}
+use Rattle.std.proofs.Common.{Result, Ok, Err}
+use Rattle.refusals.specs.declared.Refusal.{Refusal}
+use Rattle.bptc_block.specs.Answers.{measured}
+use Rattle.chooser.specs.Answers.{taken}
+use Rattle.bc7_c.specs.Numbers.{answered, numbered}
 use Rattle.bc7_c.specs.Calls.{finish_answer, measure_answer, take_answer}
 use Rattle.bc7_c.specs.Answer.{TakenApart, AnswerParts}
 
@@ -22,3 +27,13 @@ answer_parts =
       take = λ part block whole. rw (eq-eqb (length part) 68 whole) (taken-apart _ _);
       other = λ part block ne. rw (ne_eqb (length part) 68 ne) (taken-apart _ _);
     }
+
+-- the number of an answer, by the refusal and the error that it stands for: of `measure`
+pub numbered-measured : (r : Result ℕ Refusal) → numbered r ≡ answered (measured r).refusal (measured r).error
+numbered-measured (Ok error) = refl
+numbered-measured (Err refusal) = refl
+
+-- and of `take`
+pub numbered-taken : (r : Result ℕ Refusal) → numbered r ≡ answered (taken r).refusal (taken r).error
+numbered-taken (Ok error) = refl
+numbered-taken (Err refusal) = refl

@@ -15,7 +15,7 @@ use Rattle.lists.proofs.Bytes.{number_lt}
 use Rattle.bptc_block.specs.declared.Candidate.{Candidate}
 use Rattle.bptc_block.specs.Compressed.{Compressed}
 use Rattle.chooser.specs.declared.Chooser.{Chooser}
-use Rattle.chooser.specs.declared.Offered.{Offered}
+use Rattle.chooser.specs.Answers.{Offered}
 use Rattle.chooser.specs.OfferCall.{offer_refusal, finish_gives, offer_of}
 use Rattle.chooser.proofs.Calls.{start-answer, started_length, offer_cases, offer-number, offer-declined, gives_keeps}
 use Rattle.bc7_c.specs.Parts.{chooser_bytes, chooser_in}

@@ -15,13 +15,13 @@ use Rattle.lists.specs.Tests.{pick, and, all}
 use Rattle.lists.specs.Rows.{sum}
 use Rattle.lists.specs.Bits.{split, join}
 use Rattle.lists.proofs.Tests.{and-true, and_last}
-use Rattle.bptc.specs.Mode.{Mode, Known, mode_numbered, largest}
+use Rattle.bptc.specs.Mode.{Mode, Known, IsMode, mode_numbered, largest}
+use Rattle.bptc.proofs.Modes.{by_mode}
 use Rattle.bptc_block.specs.declared.PBits.TheVariants.{Free, Fixed}
 use Rattle.bptc_block.specs.Refusal.{within, in_range, check_candidate, check_indices}
 use Rattle.bptc_block.specs.PackCall.{fixed_at}
-use Rattle.bptc_block.proofs.Modes.{lawful}
+use Rattle.bptc_block.proofs.Modes.{lawful, index-narrow, numbered}
 use Rattle.bptc_block.proofs.Refusals.{is_mode_lem}
-use Rattle.bptc_rust.proofs.WordFields.{few_bits}
 use Rattle.bc7_c.specs.Numbers.{end_of, ends_of, indices_of, packed_of, candidate_of}
 use Rattle.bc7_c.specs.Masks.{above, end_widths, over, check_masked}
 
@@ -110,7 +110,7 @@ unfolding check_candidate largest
 masked_checked mode partition e0 e1 e2 e3 p indices channels top index known h0 h1 h2 h3 h c t i =
     let m : Mode = mode_numbered mode in
     let bits : m.channel_bits ≤ 8 = omega (arith, (lawful mode).shades.most) in
-    let few : m.index_bits ≤ 4 = omega (arith, few_bits mode) in
+    let few : m.index_bits ≤ 4 = omega (arith, (index-narrow (mode_numbered mode) (numbered mode)).1) in
     rw (c, t, i, is_mode_lem mode known, ends_masked m.channel_bits e0 e1 e2 e3 bits h0 h1 h2 h3, indices_masked m.index_bits indices few h)
 
 -- sixteen indices 0 pass
@@ -129,3 +129,13 @@ unindexed mode partition e0 e1 e2 e3 p free = rw (zeros_pass mode) (go (eqb free
         ≡ check_candidate (record { mode = mode; partition = partition; ends = ends_of e0 e1 e2 e3; p = pick t (Fixed p) Free }) 0
     go true = refl
     go false = rw (le-leb 0 (2 ^ (mode_numbered mode).p_bits - 1) (omega arith))
+
+-- the bits that no channel of a mode has
+pub end-mask : (m : Mode) → IsMode m → 4294967295 - (2 ^ m.channel_bits - 1) * 65793 ≡ above end_widths m.channel_bits
+unfolding above join
+end-mask = by_mode (λ (m : Mode). 4294967295 - (2 ^ m.channel_bits - 1) * 65793 ≡ above end_widths m.channel_bits) refl refl
+
+-- and no index
+pub index-mask : (m : Mode) → IsMode m → 18446744073709551615 - largest m * 1229782938247303441 ≡ above (replicate 16 4) m.index_bits
+unfolding above join largest
+index-mask = by_mode (λ (m : Mode). 18446744073709551615 - largest m * 1229782938247303441 ≡ above (replicate 16 4) m.index_bits) refl refl

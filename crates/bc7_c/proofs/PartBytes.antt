@@ -6,13 +6,16 @@ use mathlib.Core.List.{List, [], ◌∷◌, ◌++◌, append-nil, append_assoc}
 use lib.ListN.{length, get_or, take, drop, length-append, length-drop, drop_of_length-le, take-append-drop}
 use lib.Seq.{take_at, drop_at, take_all, drop-drop, get_or-drop}
 use borrow.Rule.Slice.PartMut.{put_mid}
+use Rattle.std.proofs.Common.{w32}
+use Rattle.std.specs.Int.{to_le_bytes, from_le_bytes}
+use Rattle.std.proofs.lemmas.Nat.{le_bytes_4}
 use Rattle.lists.specs.Bytes.{Bytes, bytes, number}
 use Rattle.lists.specs.Bits.{split}
 use Rattle.lists.proofs.Rows.{listed}
-use Rattle.lists.proofs.Bytes.{number-bytes, bytes-number}
+use Rattle.lists.proofs.Bytes.{byte_lt, length-bytes, bytes-bytes, number-bytes, bytes-number, number-four}
 use Rattle.bptc.specs.declared.Rgb.{Rgb}
 use Rattle.bptc.specs.Colour.{black, bytes_of}
-use Rattle.bptc_block.specs.declared.Reading.{Reading}
+use Rattle.bptc_block.specs.Answers.{BlockRead}
 use Rattle.chooser.specs.declared.Chooser.{Chooser}
 use Rattle.bc7_c.specs.Parts.{chooser_bytes, chooser_in, head_bytes}
 
@@ -69,15 +72,17 @@ chooser_put ch rest p b r =
     (append_assoc ch.pixels ch.block (bytes 4 ch.error))
 
 -- the fields before the indices, endpoint by endpoint
-pub head-listed : (r : Reading) → length r.ends ≡ 4 →
+pub head-listed : (r : BlockRead) → length r.ends ≡ 4 →
     r.mode ∷ (r.partition ∷ (bytes_of (get_or r.ends 0 black ∷ (get_or r.ends 1 black ∷ (get_or r.ends 2 black ∷ (get_or r.ends 3 black ∷ [])))) ++ (r.p ∷ []))) ≡ head_bytes r
 unfolding head_bytes
 head-listed r four = ap (λ (es : List Rgb). r.mode ∷ (r.partition ∷ (bytes_of es ++ (r.p ∷ [])))) (listed black r.ends 4 four)
 
--- the four bytes of a number
-pub four_bytes : (n : ℕ) → n < 2 ^ 32 → n % 256 ∷ (n / 256 % 256 ∷ (n / 65536 % 256 ∷ (n / 16777216 ∷ []))) ≡ bytes 4 n
-unfolding bytes split
+-- the number of four bytes, by the library's word
+pub four-number : (bs : List ℕ) → length bs ≡ 4 → from_le_bytes w32 bs ≡ number bs
+four-number bs four = number-four bs four
+
+-- and the four bytes of a number
+pub four_bytes : (n : ℕ) → n < 2 ^ 32 → to_le_bytes w32 n ≡ bytes 4 n
 four_bytes n h =
-    let third : n / 65536 % 256 ≡ n / 256 / 256 % 256 = omega arith in
-    let fourth : n / 16777216 ≡ n / 256 / 256 / 256 % 256 = omega arith in
-    rw (third, fourth)
+    le_bytes_4 (bytes 4 n) n (length-bytes 4 n) (byte_lt (bytes 4 n) (bytes-bytes 4 n))
+    (sym (four-number (bytes 4 n) (length-bytes 4 n) ∙ number-bytes 4 n h))

@@ -1,6 +1,8 @@
 -- The numbers that C hands over, any of their type, and what they stand for.
-use Rattle.std.specs.Prelude.{ℕ, ◌+◌, ◌*◌, ◌/◌, ◌%◌, ◌^◌, List, [], ◌∷◌, replicate}
+use Rattle.std.specs.Prelude.{ℕ, ◌+◌, ◌*◌, ◌/◌, ◌%◌, ◌^◌, List, [], ◌∷◌, Result, Ok, Err, replicate}
 use Rattle.lists.specs.Bits.{split}
+use Rattle.refusals.specs.declared.Refusal.{Refusal}
+use Rattle.refusals.specs.Numbers.{number_of}
 use Rattle.bptc.specs.declared.Rgb.{Rgb}
 use Rattle.bptc_block.specs.declared.Candidate.{Candidate}
 use Rattle.bptc_block.specs.declared.Fields.{Fields}
@@ -29,3 +31,8 @@ packed_of partition e0 e1 e2 e3 p indices = record { partition = partition; ends
 -- a refusal and an error as one number, the error in the 32 lowest bits
 unfoldable pub answered : ℕ → ℕ → ℕ
 answered refusal error = refusal * 2 ^ 32 + error
+
+-- the answer of a call that gives an error, as one number
+abbrev pub numbered : Result ℕ Refusal → ℕ
+numbered (Ok error) = answered 0 error
+numbered (Err refusal) = answered (number_of refusal) 0

@@ -2,7 +2,7 @@
 use Rattle.std.specs.Prelude.{ℕ, List, [], ◌∷◌, ◌++◌, take, drop}
 use Rattle.lists.specs.Bytes.{bytes, number}
 use Rattle.bptc.specs.Colour.{bytes_of}
-use Rattle.bptc_block.specs.declared.Reading.{Reading}
+use Rattle.bptc_block.specs.Answers.{BlockRead}
 use Rattle.chooser.specs.declared.Chooser.{Chooser}
 
 -- the 68 bytes of a chooser: its pixels, its block and its error, lowest byte first
@@ -14,9 +14,9 @@ unfoldable pub chooser_in : List ℕ → Chooser
 chooser_in part = record { pixels = take 48 part; block = take 16 (drop 48 part); error = number (drop 64 part) }
 
 -- the fields of a reading before its indices: mode, partition, four endpoints and p-bits
-unfoldable pub head_bytes : Reading → List ℕ
+unfoldable pub head_bytes : BlockRead → List ℕ
 head_bytes r = r.mode ∷ (r.partition ∷ (bytes_of r.ends ++ (r.p ∷ [])))
 
 -- the 31 bytes of its fields
-unfoldable pub field_bytes : Reading → List ℕ
+unfoldable pub field_bytes : BlockRead → List ℕ
 field_bytes r = head_bytes r ++ r.indices

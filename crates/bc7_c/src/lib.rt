@@ -1,4 +1,5 @@
-// The seven calls for C, on numbers and byte parts; include/bc7.h has their prototypes.
+// The seven calls for C, on numbers and byte parts; include/bc7.h has their prototypes. C passes each endpoint by itself, and takes a
+// refusal as its number.
 #![tactic(auto)]
 
 ghost use Rattle.std.specs.Prelude.{◌≡◌};
@@ -7,19 +8,23 @@ ghost use Rattle.bptc_block.specs.FinishCall.{finish_into};
 ghost use Rattle.bc7_c.specs.Numbers.{candidate_of, packed_of};
 ghost use Rattle.bc7_c.specs.Calls.{finish_answer, measure_answer, start_answer, start_part, offer_answer, offer_part, take_answer, take_block, read_answer, read_pixels, read_fields};
 
-use crate::checks::{candidate_refusal, pack_refusal};
-use crate::numbers::{answer, p_bits};
+use crate::checks::Numbers;
+use crate::numbers::{answer, numbered, p_bits};
 use crate::parts::{chooser_in, write_chooser, write_fields};
-use bits::indexes::narrowed;
-use bits::writing::write_words;
+use bits::writing::write_narrowed;
 use block::{measure, read};
+use bptc_block::{CandidateWords, Words};
 use chooser::Chooser;
 use finishing::words::finish_words;
-use palette::{Mode1, Mode3};
+use palette::{Mode, Mode1, Mode3};
+use refusals::{Refusal, number};
 
 mod checks;
 mod numbers;
 mod parts;
+
+// What answers a chooser part or a field part of another length: no refusal has this number.
+const OTHER_LENGTH: u32 = 255;
 
 // The call `pack`: sixteen indices of four bits each. Gives the refusal's number, or 0.
 #[unsafe(no_mangle)]
@@ -40,26 +45,28 @@ pub extern "C" fn bc7_pack(
     if block.len() != 16 {
         return 2;
     }
-    let declined = pack_refusal(mode, partition, e0, e1, e2, e3, p, indices);
-    if declined != 0 {
-        return declined;
-    }
-    // told apart here: in a function of its own the compiler makes one piece of code of both modes, with masks chosen at run time
-    let indexes = match mode {
-        1 => narrowed(Mode1::INDEX_BITS, indices),
-        _ => narrowed(Mode3::INDEX_BITS, indices),
-    };
-    write_words(
-        mode as u8,
-        partition as u8,
+    let numbers = Numbers {
+        mode,
+        partition,
         e0,
         e1,
         e2,
         e3,
-        p as u8,
-        indexes,
-        block,
-    );
+        p,
+    };
+    if let Err(refusal) = numbers.check_pack(indices) {
+        return u32::from(refusal.number());
+    }
+    let w = Words {
+        partition: partition as u8,
+        ends: [e0, e1, e2, e3],
+        p: p as u8,
+        indexes: indices,
+    };
+    match mode {
+        1 => write_narrowed::<Mode1>(w, block),
+        _ => write_narrowed::<Mode3>(w, block),
+    }
     0
 }
 
@@ -81,24 +88,34 @@ pub extern "C" fn bc7_finish(
     ensures part { block.new ≡ finish_into pixels.now (candidate_of mode partition e0 e1 e2 e3 p free) block.old }
 {
     if pixels.len() != 48 {
-        return answer(1, 0);
+        return numbered(Err(Refusal::PixelPart));
     }
     if block.len() != 16 {
-        return answer(2, 0);
+        return numbered(Err(Refusal::BlockPart));
     }
-    let declined = candidate_refusal(mode, partition, e0, e1, e2, e3, p, free);
-    if declined != 0 {
-        return answer(declined, 0);
+    let numbers = Numbers {
+        mode,
+        partition,
+        e0,
+        e1,
+        e2,
+        e3,
+        p,
+    };
+    if let Err(refusal) = numbers.check_candidate(free) {
+        return numbered(Err(refusal));
     }
     let error = finish_words(
         pixels,
-        mode as u8,
-        partition as u8,
-        [e0, e1, e2, e3],
-        p_bits(p, free),
+        CandidateWords {
+            mode: mode as u8,
+            partition: partition as u8,
+            ends: [e0, e1, e2, e3],
+            p: p_bits(p, free),
+        },
         block,
     );
-    answer(0, error)
+    numbered(Ok(error))
 }
 
 // The call `start`, with the chooser into a part of 68 bytes. Gives the refusal's number, or 0.
@@ -108,12 +125,11 @@ pub extern "C" fn bc7_start(pixels: &[u8], chooser: &mut [u8]) -> u32
     ensures part { chooser.new ≡ start_part pixels.now chooser.old }
 {
     if chooser.len() != 68 {
-        return 255;
+        return OTHER_LENGTH;
     }
     let started = Chooser::start(pixels);
-    let held = started.chooser;
-    write_chooser(held, chooser);
-    started.refusal as u32
+    write_chooser(started.1, chooser);
+    u32::from(number(started.0))
 }
 
 // The call `offer`, to the chooser in such a part. Gives the refusal's number, or 0.
@@ -133,19 +149,27 @@ pub extern "C" fn bc7_offer(
     ensures part { chooser.new ≡ offer_part chooser.old (candidate_of mode partition e0 e1 e2 e3 p free) }
 {
     if chooser.len() != 68 {
-        return 255;
+        return OTHER_LENGTH;
     }
-    let declined = candidate_refusal(mode, partition, e0, e1, e2, e3, p, free);
-    if declined != 0 {
-        return declined;
+    let numbers = Numbers {
+        mode,
+        partition,
+        e0,
+        e1,
+        e2,
+        e3,
+        p,
+    };
+    if let Err(refusal) = numbers.check_candidate(free) {
+        return u32::from(refusal.number());
     }
     let held = chooser_in(chooser);
-    let kept = held.accept(
-        mode as u8,
-        partition as u8,
-        [e0, e1, e2, e3],
-        p_bits(p, free),
-    );
+    let kept = held.accept(CandidateWords {
+        mode: mode as u8,
+        partition: partition as u8,
+        ends: [e0, e1, e2, e3],
+        p: p_bits(p, free),
+    });
     write_chooser(kept, chooser);
     0
 }
@@ -157,11 +181,11 @@ pub extern "C" fn bc7_take(chooser: &[u8], block: &mut [u8]) -> u64
     ensures part { block.new ≡ take_block chooser.now block.old }
 {
     if chooser.len() != 68 {
-        return answer(255, 0);
+        return answer(OTHER_LENGTH, 0);
     }
     let held = chooser_in(chooser);
     let took = held.take(block);
-    answer(took.answer.refusal as u32, took.answer.error)
+    numbered(took.0)
 }
 
 // The call `read`, with the fields into a part of 31 bytes. Gives the refusal's number, or 0.
@@ -172,15 +196,15 @@ pub extern "C" fn bc7_read(block: &[u8], pixels: &mut [u8], fields: &mut [u8]) -
     ensures fields { fields.new ≡ read_fields block.now pixels.old fields.old }
 {
     if fields.len() != 31 {
-        return 255;
+        return OTHER_LENGTH;
     }
-    let reading = read(block, pixels);
-    let refusal = reading.refusal;
-    if refusal != 0 {
-        return refusal as u32;
+    match read(block, pixels) {
+        Ok(reading) => {
+            write_fields(reading, fields);
+            0
+        }
+        Err(refusal) => u32::from(refusal.number()),
     }
-    write_fields(reading, fields);
-    0
 }
 
 // The call `measure`. Gives the refusal above the error.
@@ -188,6 +212,5 @@ pub extern "C" fn bc7_read(block: &[u8], pixels: &mut [u8], fields: &mut [u8]) -
 pub extern "C" fn bc7_measure(block: &[u8], pixels: &[u8]) -> u64
     ensures { result ≡ measure_answer block.now pixels.now }
 {
-    let measured = measure(block, pixels);
-    answer(measured.refusal as u32, measured.error)
+    numbered(measure(block, pixels))
 }

@@ -1,9 +1,10 @@
 // The numbers of C as the calls take them and give them.
 ghost use Rattle.std.specs.Prelude.{◌≡◌, ◌<◌};
 ghost use Rattle.bptc_block.specs.Fields.{p_bits_of};
-ghost use Rattle.bc7_c.specs.Numbers.{answered};
+ghost use Rattle.bc7_c.specs.Numbers.{answered, numbered};
 
 use bptc_block::PBits;
+use refusals::Refusal;
 
 // P-bits, fixed or free. Requires a byte where they are fixed.
 pub(crate) fn p_bits(p: u32, free: u32) -> PBits
@@ -14,6 +15,16 @@ pub(crate) fn p_bits(p: u32, free: u32) -> PBits
         PBits::Fixed(p as u8)
     } else {
         PBits::Free
+    }
+}
+
+// The answer of a call that gives an error, as one number.
+pub(crate) fn numbered(given: Result<u32, Refusal>) -> u64
+    ensures { result ≡ numbered given }
+{
+    match given {
+        Ok(error) => answer(0, error),
+        Err(refusal) => answer(u32::from(refusal.number()), 0),
     }
 }
 

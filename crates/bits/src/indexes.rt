@@ -7,37 +7,17 @@ ghost use Rattle.bptc_rust.specs.IndexList.{index_list};
 ghost use Rattle.bptc_rust.specs.CompressedIndexList.{ensure_msb_zero, compress_single_index, compress_p2};
 ghost use Rattle.bptc_rust.specs.Subset2Map.{PARTITION-SET-2};
 
+use palette::Mode;
 use partitions::{entry2, entry3};
 
-// Indexes, and whether those of a subset were flipped.
-#[derive(Clone, Copy)]
-pub(crate) struct Ensured {
-    pub indexes: u64,
-    pub swap: bool,
-}
-
-// The indexes without the two anchors' top bits, and whether each subset is swapped.
-#[derive(Clone, Copy)]
-pub(crate) struct CompressedIndexList {
-    pub indexes: u64,
-    pub swap0: bool,
-    pub swap1: bool,
-}
-
 // The indexes as one number, that of pixel 0 lowest.
-pub(crate) fn index_list(bits: u32, indices: &[u8; 16]) -> u64
-    requires few { bits ≤ 3 }
-    requires sixteen { length indices.now ≡ 16 }
-    requires small { (i : ℕ) → get_or indices.now i 0 < 2 ^ bits }
-    ensures { result ≡ index_list bits indices.now }
+pub(crate) fn index_list<M: Mode>(indices: &[u8; 16]) -> u64
+    requires { (i : ℕ) → get_or indices.now i 0 < 2 ^ M.mode.index_bits }
+    ensures { result ≡ index_list M.mode.index_bits indices.now }
 {
-    let mut indexes: u64 = 0;
-    let mut at: u32 = 0;
-    let mut i: usize = 0;
-    while i < 16 {
-        indexes = indexes | ((indices[i] as u64) << at);
-        at += bits;
-        i += 1;
+    let mut indexes = 0;
+    for i in 0..16 {
+        indexes |= u64::from(indices[i]) << (i as u32 * M::INDEX_BITS);
     }
     indexes
 }
@@ -52,6 +32,7 @@ fn closed_up(n: u64, low: u64, high: u64, by: u32) -> u64
 
 // The indexes as one number, from sixteen of four bits each: two neighbours at a time, in four steps for all of them, which is
 // quicker than digit by digit. Requires that each has no more than `bits` bits.
+#[inline(always)]
 pub fn narrowed(bits: u32, indices: u64) -> u64
     requires few { bits ≤ 3 }
     requires small { (i : ℕ) → get_or (split (replicate 16 4) indices) i 0 < 2 ^ bits }
@@ -64,15 +45,12 @@ pub fn narrowed(bits: u32, indices: u64) -> u64
     closed_up(eight, 0x0000_0000_FFFF_FFFF, 0xFFFF_FFFF_0000_0000, 8 * by)
 }
 
-// The bits of subset 1's indexes and its anchor above them, where an index has two bits or three.
-// Requires a partition of the table.
-fn entry(bits: u32, partition: usize) -> u64
-    requires some { 2 ≤ bits }
-    requires few { bits ≤ 3 }
-    requires inside { partition < 64 }
-    ensures { result ≡ entry_of bits partition }
+// The bits of subset 1's indexes and its anchor above them. Requires a partition of the table.
+fn entry<M: Mode>(partition: usize) -> u64
+    requires { partition < 64 }
+    ensures { result ≡ entry_of M.mode.index_bits partition }
 {
-    if bits == 2 {
+    if M::INDEX_BITS == 2 {
         entry2(partition)
     } else {
         entry3(partition)
@@ -80,69 +58,51 @@ fn entry(bits: u32, partition: usize) -> u64
 }
 
 // The place of the top bit of an index.
-fn msb(bits: u32, index: u32) -> u32
-    requires some { 0 < bits }
-    requires few { bits ≤ 3 }
-    requires inside { index < 16 }
-    ensures { (result ≡ bits - 1 + index * bits) × (result < 48) }
+fn msb<M: Mode>(index: u32) -> u32
+    requires { index < 16 }
+    ensures { (result ≡ M.mode.index_bits - 1 + index * M.mode.index_bits) × (result < 48) }
 {
-    bits - 1 + index * bits
+    M::INDEX_BITS - 1 + index * M::INDEX_BITS
 }
 
-// Flips the indexes of a subset where the top bit of an index of `bits` bits is set.
-fn ensure_msb_zero(bits: u32, indexes: u64, index: u32, subset_mask: u64) -> Ensured
-    requires some { 0 < bits }
-    requires few { bits ≤ 3 }
-    requires inside { index < 16 }
-    ensures same { result.indexes ≡ (ensure_msb_zero bits indexes index subset_mask).0 }
-    ensures turned { result.swap ≡ (ensure_msb_zero bits indexes index subset_mask).1 }
+// Flips the indexes of a subset where the top bit of an index is set. Gives the indexes, and whether they were flipped.
+fn ensure_msb_zero<M: Mode>(indexes: u64, index: u32, subset_mask: u64) -> (u64, bool)
+    requires { index < 16 }
+    ensures { result ≡ ensure_msb_zero M.mode.index_bits indexes index subset_mask }
 {
-    let msb_mask = 1u64 << msb(bits, index);
+    let msb_mask = 1 << msb::<M>(index);
     if indexes & msb_mask == 0 {
-        Ensured {
-            indexes,
-            swap: false,
-        }
+        (indexes, false)
     } else {
-        Ensured {
-            indexes: indexes ^ subset_mask,
-            swap: true,
-        }
+        (indexes ^ subset_mask, true)
     }
 }
 
 // Takes out the top bit of an index.
-fn compress_single_index(bits: u32, indexes: u64, index: u32) -> u64
-    requires some { 0 < bits }
-    requires few { bits ≤ 3 }
-    requires inside { index < 16 }
-    ensures { result ≡ compress_single_index bits indexes index }
+fn compress_single_index<M: Mode>(indexes: u64, index: u32) -> u64
+    requires { index < 16 }
+    ensures { result ≡ compress_single_index M.mode.index_bits indexes index }
 {
-    let msb_mask = 1u64 << msb(bits, index);
+    let msb_mask = 1u64 << msb::<M>(index);
     let before_mask = msb_mask - 1;
-    let after_mask = (0xFFFF_FFFF_FFFF_FFFF - before_mask) << 1;
+    let after_mask = !before_mask << 1;
     (indexes & before_mask) | ((indexes & after_mask) >> 1)
 }
 
 // Flips the subsets whose anchors ask for it, pixel 0 first, and takes the anchors' top bits out.
-pub(crate) fn compress_p2(bits: u32, indexes: u64, partition: usize) -> CompressedIndexList
-    requires some { 2 ≤ bits }
-    requires few { bits ≤ 3 }
-    requires inside { partition < 64 }
-    ensures same { result.indexes ≡ (compress_p2 bits indexes (PARTITION-SET-2 partition)).0.compressed_indexes }
-    ensures first { result.swap0 ≡ (compress_p2 bits indexes (PARTITION-SET-2 partition)).1 }
-    ensures second { result.swap1 ≡ (compress_p2 bits indexes (PARTITION-SET-2 partition)).2 }
+// Gives the indexes, and whether each subset is swapped.
+pub(crate) fn compress_p2<M: Mode>(indexes: u64, partition: usize) -> (u64, bool, bool)
+    requires { partition < 64 }
+    ensures same { result.0 ≡ (compress_p2 M.mode.index_bits indexes (PARTITION-SET-2 partition)).0.compressed_indexes }
+    ensures first { result.1 ≡ (compress_p2 M.mode.index_bits indexes (PARTITION-SET-2 partition)).1 }
+    ensures second { result.2 ≡ (compress_p2 M.mode.index_bits indexes (PARTITION-SET-2 partition)).2 }
 {
-    let entry = entry(bits, partition);
-    let size = 1u64 << (bits * 16);
+    let entry = entry::<M>(partition);
+    let size = 1u64 << (M::INDEX_BITS * 16);
     let mask_s1 = entry % size;
     let anchor = (entry / size) as u32;
-    let e0 = ensure_msb_zero(bits, indexes, 0, mask_s1 ^ (size - 1));
-    let e1 = ensure_msb_zero(bits, e0.indexes, anchor, mask_s1);
-    let shorter = compress_single_index(bits, e1.indexes, anchor);
-    CompressedIndexList {
-        indexes: compress_single_index(bits, shorter, 0),
-        swap0: e0.swap,
-        swap1: e1.swap,
-    }
+    let (first, swap0) = ensure_msb_zero::<M>(indexes, 0, mask_s1 ^ (size - 1));
+    let (second, swap1) = ensure_msb_zero::<M>(first, anchor, mask_s1);
+    let shorter = compress_single_index::<M>(second, anchor);
+    (compress_single_index::<M>(shorter, 0), swap0, swap1)
 }

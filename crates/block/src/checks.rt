@@ -1,25 +1,31 @@
-// The checks of the calls, in the order of their numbers.
-ghost use Rattle.std.specs.Prelude.{◌≡◌, leb, length};
-ghost use Rattle.lists.specs.Tests.{all};
+// The checks of the calls, in the order of the refusals.
+ghost use Rattle.std.specs.Prelude.{◌≡◌, ◌-◌, ◌^◌, leb, length};
+ghost use Rattle.std.specs.List.{list_all};
+ghost use Rattle.bptc.specs.Mode.{largest};
+ghost use Rattle.refusals.specs.Numbers.{declined};
 ghost use Rattle.bptc_block.specs.Packed.{mode_of};
-ghost use Rattle.bptc_block.specs.Refusal.{within, in_range, p_in_range, check_stored, check_candidate, check_indices, check_pixels, check_block, check_readable};
+ghost use Rattle.bptc_block.specs.PackCall.{pack_of};
+ghost use Rattle.bptc_block.specs.FinishCall.{finish_refusal};
+ghost use Rattle.bptc_block.specs.ReadCall.{read_refusal};
+ghost use Rattle.bptc_block.specs.Refusal.{within, in_range, p_in_range, check_stored, check_candidate, check_indices, check_pixels, check_block};
 
 use bptc::Rgb;
-use bptc_block::{Candidate, PBits};
-use palette::{Mode1, Mode3};
+use bptc_block::{Candidate, Fields, PBits};
+use palette::{Mode, Mode1, Mode3};
+use refusals::Refusal;
 
 // Every channel of a colour is at most the top.
-fn within(c: Rgb, top: u8) -> bool
-    ensures { result ≡ within top c }
+fn within(c: &Rgb, top: u8) -> bool
+    ensures { result ≡ within top c.now }
 {
-    c.r <= top && (c.g <= top && c.b <= top)
+    c.r <= top && c.g <= top && c.b <= top
 }
 
 // And of four.
-fn in_range(ends: [Rgb; 4], top: u8) -> bool
-    ensures { result ≡ in_range top ends }
+fn in_range(ends: &[Rgb; 4], top: u8) -> bool
+    ensures { result ≡ list_all (within top) ends.now }
 {
-    within(ends[0], top) && (within(ends[1], top) && (within(ends[2], top) && within(ends[3], top)))
+    ends.iter().all(|c| within(c, top))
 }
 
 // Free p-bits, or fixed ones that are at most the top.
@@ -32,86 +38,111 @@ fn p_in_range(p: PBits, top: u8) -> bool
     }
 }
 
-// 4 to 6: the partition, the endpoint channels and the p-bits, by the greatest that the mode has; then what the later checks give.
-fn stored_refusal(partition: u8, ends: [Rgb; 4], p: PBits, channel: u8, bits: u8, rest: u8) -> u8
-    ensures { result ≡ check_stored channel bits partition ends p rest }
+// The partition, the endpoint channels and the p-bits, by the greatest that the mode has.
+fn check_stored<M: Mode>(partition: u8, ends: &[Rgb; 4], p: PBits) -> Result<(), Refusal>
+    ensures { declined result ≡ check_stored (2 ^ M.mode.channel_bits - 1) (2 ^ M.mode.p_bits - 1) partition ends.now p 0 }
 {
     if partition > 63 {
-        return 4;
+        return Err(Refusal::Partition);
     }
-    if !in_range(ends, channel) {
-        return 5;
+    if !in_range(ends, M::max_channel()) {
+        return Err(Refusal::Channel);
     }
-    if !p_in_range(p, bits) {
-        return 6;
+    if !p_in_range(p, M::max_p()) {
+        return Err(Refusal::PBits);
     }
-    rest
+    Ok(())
 }
 
-// 3 to 6, and then what the later checks give.
-pub fn candidate_refusal(c: Candidate, rest: u8) -> u8
-    ensures { result ≡ check_candidate c rest }
+// The mode, and then these.
+#[tactic(auto, unfolding(bptc_block::specs::Refusal::check_candidate))]
+pub fn check_candidate(c: &Candidate) -> Result<(), Refusal>
+    ensures { declined result ≡ check_candidate c.now 0 }
 {
-    let mode = c.mode;
-    let ends = c.ends;
-    let p = c.p;
-    match mode {
-        1 => stored_refusal(c.partition, ends, p, Mode1::MAX_CHANNEL, Mode1::MAX_P, rest),
-        3 => stored_refusal(c.partition, ends, p, Mode3::MAX_CHANNEL, Mode3::MAX_P, rest),
-        _ => 3,
+    match c.mode {
+        1 => check_stored::<Mode1>(c.partition, &c.ends, c.p),
+        3 => check_stored::<Mode3>(c.partition, &c.ends, c.p),
+        _ => Err(Refusal::Mode),
     }
 }
 
 // Every index is at most the top.
-fn all_small(indices: &[u8], top: u8) -> bool
-    ensures { result ≡ all (λ i. leb i top) indices.now }
+fn all_small(indices: &[u8; 16], top: u8) -> bool
+    ensures { result ≡ list_all (λ i. leb i top) indices.now }
 {
-    let mut small = true;
-    let mut i: usize = 0;
-    while i < indices.len() {
-        small = small && indices[i] <= top;
-        i += 1;
-    }
-    small
+    indices.iter().all(|i| *i <= top)
 }
 
-// 7: every index is at most the mode's largest.
-pub(crate) fn indices_refusal(mode: u8, indices: &[u8]) -> u8
-    ensures { result ≡ check_indices mode indices.now 0 }
+// Every index is at most the mode's largest.
+fn check_indices(mode: u8, indices: &[u8; 16]) -> Result<(), Refusal>
+    ensures { declined result ≡ check_indices mode indices.now 0 }
 {
-    let small = match mode {
-        1 => all_small(indices, Mode1::MAX_INDEX),
-        _ => all_small(indices, Mode3::MAX_INDEX),
+    let top = match mode {
+        1 => Mode1::max_index(),
+        _ => Mode3::max_index(),
     };
-    if small { 0 } else { 7 }
+    if all_small(indices, top) {
+        Ok(())
+    } else {
+        Err(Refusal::Index)
+    }
 }
 
-// 1 and 2: a pixel part and a block part of so many bytes; then what the later checks give.
-pub(crate) fn lengths_refusal(pixels: usize, block: usize, rest: u8) -> u8
-    ensures { result ≡ check_pixels pixels (check_block block rest) }
+// A block part of 16 bytes.
+pub(crate) fn check_block(block: &[u8]) -> Result<(), Refusal>
+    ensures { declined result ≡ check_block (length block.now) 0 }
 {
-    if pixels != 48 {
-        return 1;
+    if block.len() != 16 {
+        return Err(Refusal::BlockPart);
     }
-    if block != 16 {
-        return 2;
-    }
-    rest
+    Ok(())
 }
 
-// 1, 2, 8 and 9, over a pixel part of so many bytes.
-pub(crate) fn read_refusal(block: &[u8], pixels: usize) -> u8
-    ensures { result ≡ check_pixels pixels (check_block (length block.now) (check_readable block.now 0)) }
+// A pixel part of 48 bytes, and such a block part.
+fn check_parts(pixels: &[u8], block: &[u8]) -> Result<(), Refusal>
+    ensures { declined result ≡ check_pixels (length pixels.now) (check_block (length block.now) 0) }
 {
-    let number = lengths_refusal(pixels, block.len(), 0);
-    if number != 0 {
-        return number;
+    if pixels.len() != 48 {
+        return Err(Refusal::PixelPart);
     }
+    check_block(block)
+}
+
+// The checks of `pack`.
+#[tactic(auto, using(bptc_block::proofs::Answers::candidate_then, bptc_block::proofs::Answers::unless_then), unfolding(bptc_block::specs::PackCall::pack_of))]
+pub(crate) fn check_pack(mode: u8, fields: Fields, block: &[u8]) -> Result<(), Refusal>
+    ensures { declined result ≡ pack_of mode fields block.now }
+{
+    check_block(block)?;
+    check_candidate(&Candidate {
+        mode,
+        partition: fields.partition,
+        ends: fields.ends,
+        p: PBits::Fixed(fields.p),
+    })?;
+    check_indices(mode, &fields.indices)
+}
+
+// Those of `finish`.
+#[tactic(auto, using(bptc_block::proofs::Answers::candidate_then, bptc_block::proofs::Answers::unless_then), unfolding(bptc_block::specs::FinishCall::finish_refusal))]
+pub(crate) fn check_finish(pixels: &[u8], candidate: Candidate, block: &[u8]) -> Result<(), Refusal>
+    ensures { declined result ≡ finish_refusal pixels.now candidate block.now }
+{
+    check_parts(pixels, block)?;
+    check_candidate(&candidate)
+}
+
+// Those of `read` and `measure`.
+#[tactic(auto, unfolding(bptc_block::specs::ReadCall::read_refusal, bptc_block::specs::Packed::mode_of))]
+pub(crate) fn check_read(block: &[u8], pixels: &[u8]) -> Result<(), Refusal>
+    ensures { declined result ≡ read_refusal block.now pixels.now }
+{
+    check_parts(pixels, block)?;
     let mode = u8::trailing_zeros(block[0]);
     match mode {
-        1 | 3 => 0,
-        0 | 2 | 4..=7 => 9,
-        _ => 8,
+        1 | 3 => Ok(()),
+        0 | 2 | 4..=7 => Err(Refusal::OtherMode),
+        _ => Err(Refusal::Reserved),
     }
 }
 

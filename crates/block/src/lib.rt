@@ -1,138 +1,107 @@
 // Packing, finishing, reading and measuring BC7 blocks of modes 1 and 3.
 #![tactic(auto)]
 
-ghost use Rattle.std.specs.Prelude.{◌≡◌};
+ghost use Rattle.std.specs.Prelude.{◌≡◌, get_or, length};
+ghost use Rattle.lists.specs.Rows.{over_pixels};
+ghost use Rattle.bptc.specs.Colour.{black, bytes_of, colours_of, dist_sq};
+ghost use Rattle.bptc_block.specs.Packed.{fields_of};
+ghost use Rattle.bptc_block.specs.Chapter.{colours};
+ghost use Rattle.refusals.specs.Numbers.{declined};
+ghost use Rattle.bptc_block.specs.Answers.{finished, measured, block_read};
 ghost use Rattle.bptc_block.specs.PackCall.{pack_of, pack_into};
 ghost use Rattle.bptc_block.specs.FinishCall.{finish_of, finish_into};
-ghost use Rattle.bptc_block.specs.ReadCall.{unread, read_of, read_into};
+ghost use Rattle.bptc_block.specs.ReadCall.{read_of, read_into};
 ghost use Rattle.bptc_block.specs.MeasureCall.{measure_of};
 
-use crate::checks::{candidate_refusal, indices_refusal, lengths_refusal, mode_of, read_refusal};
+use crate::checks::{check_finish, check_pack, check_read, mode_of};
 use crate::colours::colours;
 use crate::pixels::{distance, write_pixels};
 use bits::writing::{words, write_block};
 pub use bptc::Rgb;
-pub use bptc_block::{Candidate, Fields, Finished, Measured, PBits, Reading};
+use bptc_block::CandidateWords;
+pub use bptc_block::{Candidate, Fields, PBits, Reading};
 use finishing::words::finish_words;
+use palette::{Mode, Mode1, Mode3};
 use reading::fields;
+pub use refusals::Refusal;
 
 pub mod checks;
 mod colours;
 mod pixels;
 
-// Packs fields into a lent block, a subset exchanged where its anchor's index has its top bit set. Gives the refusal's number, or 0.
-pub fn pack(
-    mode: u8,
-    partition: u8,
-    ends: [Rgb; 4],
-    p: u8,
-    indices: [u8; 16],
-    block: &mut [u8],
-) -> u8
-    ensures answer { result ≡ pack_of mode (record { partition = partition; ends = ends; p = p; indices = indices }) block.old }
-    ensures part { block.new ≡ pack_into mode (record { partition = partition; ends = ends; p = p; indices = indices }) block.old }
+// Packs fields into a lent block, a subset exchanged where its anchor's index has its top bit set.
+#[tactic(auto, using(bptc_block::proofs::Answers::pack_left))]
+pub fn pack(mode: u8, fields: Fields, block: &mut [u8]) -> Result<(), Refusal>
+    ensures answer { declined result ≡ pack_of mode fields block.old }
+    ensures part { block.new ≡ pack_into mode fields block.old }
 {
-    if block.len() != 16 {
-        return 2;
-    }
-    let candidate = Candidate {
-        mode,
-        partition,
-        ends,
-        p: PBits::Fixed(p),
-    };
-    let number = candidate_refusal(candidate, indices_refusal(mode, &indices));
-    if number != 0 {
-        return number;
-    }
-    let f = Fields {
-        partition,
-        ends,
-        p,
-        indices,
-    };
-    write_block(mode, f, block);
-    0
+    check_pack(mode, fields, block)?;
+    write_block(mode, fields, block);
+    Ok(())
 }
 
 // Finishes pixels with a candidate: the nearest index of every pixel, the first p-bits of least error where they are free, and the block
 // into the lent part. Gives the block's distance from the pixels.
-pub fn finish(pixels: &[u8], candidate: Candidate, block: &mut [u8]) -> Finished
-    ensures answer { result ≡ finish_of pixels.now candidate block.old }
+#[tactic(auto, using(bptc_block::proofs::Answers::finish_err, bptc_block::proofs::Answers::finish_left))]
+pub fn finish(pixels: &[u8], candidate: Candidate, block: &mut [u8]) -> Result<u32, Refusal>
+    ensures answer { finished result ≡ finish_of pixels.now candidate block.old }
     ensures part { block.new ≡ finish_into pixels.now candidate block.old }
 {
-    let declined = lengths_refusal(pixels.len(), block.len(), candidate_refusal(candidate, 0));
-    if declined != 0 {
-        return Finished {
-            refusal: declined,
-            error: 0,
-        };
-    }
-    let ends = candidate.ends;
-    let p = candidate.p;
-    let error = finish_words(
+    check_finish(pixels, candidate, block)?;
+    Ok(finish_words(
         pixels,
-        candidate.mode,
-        candidate.partition,
-        words(ends),
-        p,
+        CandidateWords {
+            mode: candidate.mode,
+            partition: candidate.partition,
+            ends: words(candidate.ends),
+            p: candidate.p,
+        },
         block,
-    );
-    Finished { refusal: 0, error }
+    ))
 }
 
-// A reading that is declined: the number, and all else zero.
-fn unread(refusal: u8) -> Reading
-    ensures { result ≡ unread refusal }
+// The fields of a block of the mode, and its colours into the lent pixels. Requires 48 bytes of these.
+fn read_as<M: Mode>(block: &[u8], pixels: &mut [u8]) -> Fields
+    requires { length pixels.old ≡ 48 }
+    ensures fields { result ≡ fields_of M.mode block.now }
+    ensures part { pixels.new ≡ bytes_of (colours M.mode (fields_of M.mode block.now)) }
 {
-    let black = Rgb { r: 0, g: 0, b: 0 };
-    Reading {
-        refusal,
-        mode: 0,
-        partition: 0,
-        ends: [black; 4],
-        p: 0,
-        indices: [0; 16],
-    }
+    let fields = fields::<M>(block);
+    write_pixels(colours::<M>(fields), pixels);
+    fields
 }
 
 // Reads a block: its mode and fields, and its sixteen colours into the lent pixels.
-pub fn read(block: &[u8], pixels: &mut [u8]) -> Reading
-    ensures answer { result ≡ read_of block.now pixels.old }
+#[tactic(auto, using(bptc_block::proofs::Answers::read_err, bptc_block::proofs::Answers::read_left))]
+pub fn read(block: &[u8], pixels: &mut [u8]) -> Result<Reading, Refusal>
+    ensures answer { block_read result ≡ read_of block.now pixels.old }
     ensures part { pixels.new ≡ read_into block.now pixels.old }
 {
-    let refusal = read_refusal(block, pixels.len());
-    if refusal != 0 {
-        return unread(refusal);
-    }
+    check_read(block, pixels)?;
     let mode = mode_of(block);
-    let f = fields(mode, block);
-    write_pixels(colours(mode, f), pixels);
-    let ends = f.ends;
-    let indices = f.indices;
-    Reading {
-        refusal: 0,
-        mode,
-        partition: f.partition,
-        ends,
-        p: f.p,
-        indices,
-    }
+    let fields = match mode {
+        1 => read_as::<Mode1>(block, pixels),
+        _ => read_as::<Mode3>(block, pixels),
+    };
+    Ok(Reading { mode, fields })
+}
+
+// The distance between pixels and a block of the mode. Requires 48 bytes of pixels.
+fn measure_as<M: Mode>(block: &[u8], pixels: &[u8]) -> u32
+    requires { length pixels.now ≡ 48 }
+    ensures { result ≡ over_pixels (λ i. dist_sq (get_or (colours_of pixels.now) i black) (get_or (colours M.mode (fields_of M.mode block.now)) i black)) }
+{
+    distance(colours::<M>(fields::<M>(block)), pixels)
 }
 
 // Measures a block: the summed squared distance between pixels and the block as the chapter reads it.
-pub fn measure(block: &[u8], pixels: &[u8]) -> Measured
-    ensures { result ≡ measure_of block.now pixels.now }
+#[tactic(auto, using(bptc_block::proofs::Answers::measure_err))]
+pub fn measure(block: &[u8], pixels: &[u8]) -> Result<u32, Refusal>
+    ensures { measured result ≡ measure_of block.now pixels.now }
 {
-    let refusal = read_refusal(block, pixels.len());
-    if refusal == 0 {
-        let mode = mode_of(block);
-        let f = fields(mode, block);
-        Measured {
-            refusal,
-            error: distance(colours(mode, f), pixels),
-        }
-    } else {
-        Measured { refusal, error: 0 }
-    }
+    check_read(block, pixels)?;
+    Ok(match mode_of(block) {
+        1 => measure_as::<Mode1>(block, pixels),
+        _ => measure_as::<Mode3>(block, pixels),
+    })
 }

@@ -12,13 +12,11 @@ pub(crate) fn write_pixels(colours: [Rgb; 16], pixels: &mut [u8])
     requires { length pixels.old ≡ 48 }
     ensures { pixels.new ≡ bytes_of colours }
 {
-    let mut i: usize = 0;
-    while i < 16 {
+    for i in 0..16 {
         let c = colours[i];
         pixels[i * 3] = c.r;
         pixels[i * 3 + 1] = c.g;
         pixels[i * 3 + 2] = c.b;
-        i += 1;
     }
 }
 
@@ -28,10 +26,8 @@ pub(crate) fn distance(colours: [Rgb; 16], pixels: &[u8]) -> u32
     ensures { result ≡ over_pixels (λ i. dist_sq (get_or (colours_of pixels.now) i black) (get_or colours i black)) }
 {
     let mut sum: u32 = 0;
-    let mut i: usize = 0;
-    while i < 16 {
+    for i in 0..16 {
         sum += dist_sq(pixel_at(pixels, i), colours[i]);
-        i += 1;
     }
     sum
 }

@@ -1,14 +1,15 @@
 -- What the palette's laws ask of a mode: by one test that antt computes its weights are symmetric, and its channels have a width that shows bytes.
 use Prim.Native.Nat.{ℕ, suc, ◌-◌, ◌≤◌, ◌<◌}
 use native.Mathlib.Omega.{arith}
-use mathlib.Core.Path.{◌≡◌}
+use mathlib.Core.Path.{◌≡◌, refl, sym, subst}
 use mathlib.Core.Bool.{Bool}
 use lib.Dec.{T, eqb, leb, eqb→eq, leb→le}
+use Rattle.std.proofs.Common.{inl, inr}
 use Rattle.lists.specs.Tests.{and, all}
 use Rattle.lists.specs.Rows.{up_from}
 use Rattle.lists.proofs.Tests.{and_left, and_right}
 use Rattle.lists.proofs.Tables.{tested}
-use Rattle.bptc.specs.Mode.{Mode, mode1, mode3, weight, largest}
+use Rattle.bptc.specs.Mode.{Mode, mode1, mode3, IsMode, weight, largest}
 
 -- the weights lie in 64 and are mirrored, and a stored channel has from 3 to 7 bits
 pub record Shades (m : Mode) : Type 0 where
@@ -41,3 +42,23 @@ shades1 = shades_of_lem mode1 tt (omega arith) (omega arith)
 pub shades3 : Shades mode3
 unfolding largest
 shades3 = shades_of_lem mode3 tt (omega arith) (omega arith)
+
+pub is_mode1 : IsMode mode1
+is_mode1 = inl refl
+
+pub is_mode3 : IsMode mode3
+is_mode3 = inr refl
+
+-- what holds of both modes holds of one of them
+pub by_mode : (P : Mode → Type 0) → P mode1 → P mode3 → (m : Mode) → IsMode m → P m
+by_mode P one three m (inl e) = subst P (sym e) one
+by_mode P one three m (inr e) = subst P (sym e) three
+
+-- either mode
+pub shades_of : (m : Mode) → IsMode m → Shades m
+shades_of = by_mode Shades shades1 shades3
+
+-- a row of eight has room for a mode's colours
+pub few_colours : (m : Mode) → IsMode m → largest m < 8
+unfolding largest
+few_colours = by_mode (λ (m : Mode). largest m < 8) (omega arith) (omega arith)

@@ -22,6 +22,10 @@ mode3 = record { number = 3; channel_bits = 7; index_bits = 2; p_bits = 4; weigh
 abbrev pub Known : ℕ → Type 0
 Known n = (n ≡ 1) ⊎ (n ≡ 3)
 
+-- one of the two modes
+abbrev pub IsMode : Mode → Type 0
+IsMode m = (m ≡ mode1) ⊎ (m ≡ mode3)
+
 -- the mode of such a number
 abbrev pub mode_numbered : ℕ → Mode
 mode_numbered n = pick (eqb n 1) mode1 mode3

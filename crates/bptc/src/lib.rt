@@ -1,6 +1,8 @@
-// The values that the definitions of BC7 blocks speak of. This crate has no code: its specs/ are the chapter's partitions,
-// colours and palettes, and its proofs/ the laws about them.
+// The values that the definitions of BC7 blocks speak of, and a colour as one number. The chapter's partitions, colours and palettes are
+// this crate's specs/, and the laws about them its proofs/.
 #![tactic(auto)]
+
+mod number;
 
 // A colour of three channels, stored or shown.
 #[derive(Clone, Copy)]

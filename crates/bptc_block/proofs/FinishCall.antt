@@ -7,7 +7,7 @@ use lib.Dec.{eqb}
 use lib.ListN.{length}
 use borrow.Author.Tests.{eqb-true, eq-eqb, ne_eqb}
 use Rattle.bptc_block.specs.declared.Candidate.{Candidate}
-use Rattle.bptc_block.specs.declared.Finished.{Finished}
+use Rattle.bptc_block.specs.Answers.{Finished}
 use Rattle.bptc_block.specs.Finish.{finish}
 use Rattle.bptc_block.specs.Refusal.{check_block, check_candidate}
 use Rattle.bptc_block.specs.Checks.{NotDeclined, PixelsChecked, BlockChecked, CandidateChecked}

@@ -20,3 +20,4 @@ pub mod Turned
 pub mod FinishCall
 pub mod Promise
 pub mod WordEnds
+pub mod Answers

@@ -7,7 +7,7 @@ use mathlib.Core.List.{List}
 use lib.Dec.{eqb, leb, le→leb, leb→le}
 use lib.ListN.{length}
 use lib.Pow.{le_ones, lt_of_le_ones}
-use borrow.Author.Tests.{eq-eqb, ne_eqb}
+use borrow.Author.Tests.{eqb-true, eq-eqb, ne_eqb}
 use Rattle.lists.specs.Tests.{all}
 use Rattle.bptc.specs.Mode.{Known, mode_numbered, largest}
 use Rattle.bptc_block.specs.declared.Fields.{Fields}
@@ -41,6 +41,11 @@ module _ (mode : ℕ) (f : Fields) (part : List ℕ) where
     checks : check_candidate (fixed_at mode f) (check_indices mode f.indices 0) ≡ 0
     unfolding pack_of
     checks = (passed (eqb (length part) 16) 1 _ ok).1
+
+    -- there are 16 bytes of a block
+    pub pack_sixteen : length part ≡ 16
+    unfolding pack_of
+    pack_sixteen = eqb-true _ _ (passed (eqb (length part) 16) 1 _ ok).0
 
     -- what such a candidate is
     pub pack_good : Good (fixed_at mode f)

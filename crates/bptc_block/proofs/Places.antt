@@ -4,15 +4,17 @@ use native.Mathlib.Nat.{add-suc, add_assoc, suc-mul}
 use native.Mathlib.Numerals.{add-one}
 use native.Mathlib.Omega.{arith}
 use mathlib.Core.Path.{◌≡◌, sym, ap, ◌∙◌}
-use mathlib.Core.List.{List, [], ◌∷◌, map}
+use mathlib.Core.List.{List, ◌∷◌, map}
 use lib.ListN.{get_or, take, drop, replicate, get_or-replicate, get_or-append}
 use lib.Seq.{get_or-drop}
 use Rattle.lists.specs.Rows.{up_from, sum}
 use Rattle.lists.specs.Bits.{split, field_at}
 use Rattle.lists.specs.Bytes.{number}
+use Rattle.lists.proofs.Rows.{each_same}
 use Rattle.lists.proofs.Bits.{field, next_place, sum-take_le}
 use Rattle.bptc.specs.declared.Rgb.{Rgb}
 use Rattle.bptc.specs.Mode.{Mode}
+use Rattle.bptc.specs.Colour.{black}
 use Rattle.bptc.proofs.ColourBounds.{rgb_eq}
 use Rattle.bptc_block.specs.declared.Fields.{Fields}
 use Rattle.bptc_block.specs.Fields.{index_width, widths, end_at, end_from, made}
@@ -68,21 +70,22 @@ module _ (m : Mode) (part : ℕ) where
     index_at i h = rw (get_or-drop 15 (split (widths m part) n) i 0, field (widths m part) n (15 + i), width_at m part i h)
 
 -- what is read at these places makes the fields of a block
-pub fields_read_lem : (m : Mode) (block : List ℕ) {at bits own part p : ℕ} {a b c d : Rgb} {is : List ℕ} → at ≡ m.number + 7 → bits ≡ m.channel_bits → own ≡ m.p_bits →
+pub fields_read_lem : (m : Mode) (block : List ℕ) {at bits own part p : ℕ} {ends : List Rgb} {is : List ℕ} → at ≡ m.number + 7 → bits ≡ m.channel_bits → own ≡ m.p_bits →
     part ≡ field_at (number block) (at - 6) 6 →
-    a ≡ end_from (number block) at bits 0 → b ≡ end_from (number block) at bits 1 → c ≡ end_from (number block) at bits 2 → d ≡ end_from (number block) at bits 3 →
+    ends ≡ map (end_from (number block) at bits) (up_from 0 4) →
     p ≡ field_at (number block) (at + 12 * bits) own → is ≡ drop 15 (split (widths m part) (number block)) →
-    ◌≡◌ {A = Fields} (record { partition = part; ends = a ∷ (b ∷ (c ∷ (d ∷ []))); p = p; indices = is }) (fields_of m block)
+    ◌≡◌ {A = Fields} (record { partition = part; ends = ends; p = p; indices = is }) (fields_of m block)
 unfolding fields_of made partition_in
-fields_read_lem m block {at} {bits} {own} {part} place width count partition first second third fourth ps is =
+fields_read_lem m block {at} {bits} {own} {part} place width count partition stored ps is =
     let n : ℕ = number block in
     let back : at - 6 ≡ m.number + 1 = omega arith in
     let same : part ≡ partition_in m n = rw back at partition in
-    let end : (k : ℕ) → k < 4 → end_from n at bits k ≡ end_at (split (widths m (partition_in m n)) n) k = λ k h. rw (place, width) (sym (end_at_lem m (partition_in m n) n k h)) in
+    let vs : List ℕ = split (widths m (partition_in m n)) n in
+    let end : (k : ℕ) → k < 4 → end_from n at bits k ≡ end_at vs k = λ k h. rw (place, width) (sym (end_at_lem m (partition_in m n) n k h)) in
     λ t.
     record {
       partition = (same ∙ sym (partition_of_lem m block)) t;
-      ends = (first ∙ end 0 (omega arith)) t ∷ ((second ∙ end 1 (omega arith)) t ∷ ((third ∙ end 2 (omega arith)) t ∷ ((fourth ∙ end 3 (omega arith)) t ∷ [])));
+      ends = (stored ∙ each_same black (end_from n at bits) (end_at vs) 4 end) t;
       p = (rw (place, width, count) at ps ∙ sym (bits_at m (partition_in m n) n)) t;
       indices = (is ∙ ap (λ (q : ℕ). drop 15 (split (widths m q) n)) same) t;
     }

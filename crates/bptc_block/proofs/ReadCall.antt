@@ -13,13 +13,12 @@ use Rattle.lists.proofs.Digits.{zeros-zero}
 use Rattle.bptc.specs.Mode.{Known, mode_numbered}
 use Rattle.bptc.specs.Colour.{bytes_of}
 use Rattle.bptc.proofs.ColourBounds.{bytes-length}
-use Rattle.bptc_block.specs.declared.Reading.{Reading}
-use Rattle.bptc_block.specs.declared.Measured.{Measured}
+use Rattle.bptc_block.specs.Answers.{Measured, BlockRead, reading_of, unread}
 use Rattle.bptc_block.specs.Packed.{mode_of, fields_of}
 use Rattle.bptc_block.specs.Chapter.{colours, distance}
 use Rattle.bptc_block.specs.Refusal.{is_mode, check_block, check_readable}
 use Rattle.bptc_block.specs.Checks.{NotDeclined, PixelsChecked, BlockChecked, ReadableChecked}
-use Rattle.bptc_block.specs.ReadCall.{read_refusal, reading_of, unread, read_of, read_into}
+use Rattle.bptc_block.specs.ReadCall.{read_refusal, read_of, read_into}
 use Rattle.bptc_block.specs.MeasureCall.{measure_of}
 use Rattle.bptc_block.proofs.Refusals.{number_said, passed, one_or_three, is_mode_lem}
 use Rattle.bptc_block.proofs.Checks.{pixels-checked, block-checked, readable_checked}
@@ -38,7 +37,7 @@ module _ (block px : List ℕ) where
   -- the number in the answer
   pub read_number : (read_of block px).refusal ≡ read_refusal block px
   unfolding read_of
-  read_number = number_said (λ (a : Reading). a.refusal) (read_refusal block px) refl refl
+  read_number = number_said (λ (a : BlockRead). a.refusal) (read_refusal block px) refl refl
 
   -- by checks 1, 2, 8 and 9
   pub read-checked : PixelsChecked px (BlockChecked block (ReadableChecked block NotDeclined)) (read_refusal block px)

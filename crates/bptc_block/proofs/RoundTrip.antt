@@ -17,7 +17,8 @@ use Rattle.bptc_block.specs.Packed.{packed, mode_of, fields_of}
 use Rattle.bptc_block.specs.Chapter.{colour_at, colours}
 use Rattle.bptc_block.specs.Exchange.{compressed}
 use Rattle.bptc_block.specs.PackCall.{pack_of, pack_into}
-use Rattle.bptc_block.specs.ReadCall.{reading_of, read_of, read_into}
+use Rattle.bptc_block.specs.Answers.{reading_of}
+use Rattle.bptc_block.specs.ReadCall.{read_of, read_into}
 use Rattle.bptc_block.specs.Ranges.{InRange}
 use Rattle.bptc_block.specs.RoundTrip.{Block, PackedAsRead, ReadAsPacked}
 use Rattle.bptc_block.proofs.Widths.{plain_of}

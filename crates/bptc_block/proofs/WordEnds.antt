@@ -9,29 +9,29 @@ use lib.Pow.{pow_mono}
 use Rattle.lists.specs.Rows.{up_from}
 use Rattle.lists.proofs.Rows.{listed}
 use Rattle.bptc.specs.declared.Rgb.{Rgb}
-use Rattle.bptc.specs.Mode.{mode_numbered}
+use Rattle.bptc.specs.Mode.{Mode, IsMode, mode_numbered}
 use Rattle.bptc.specs.Colour.{black, Below}
 use Rattle.bptc.specs.Shown.{Stored}
 use Rattle.bptc.specs.Pixels.{pixel_word, pixel_of}
 use Rattle.bptc.proofs.ColourBounds.{word-pixel}
 use Rattle.bptc_block.specs.declared.Candidate.{Candidate}
 use Rattle.bptc_block.specs.Fields.{word_candidate}
-use Rattle.bptc_block.proofs.Modes.{lawful}
+use Rattle.bptc_block.proofs.Modes.{lawful_of, numbered}
 use Rattle.bptc_block.proofs.Refusals.{Good}
 
 -- a channel is a byte
-pub channel-byte : (n : ℕ) → 2 ^ (mode_numbered n).channel_bits ≤ 256
-channel-byte n = pow_mono {j = 8} (omega (arith, (lawful n).shades.most))
+pub channel-byte : (m : Mode) → IsMode m → 2 ^ m.channel_bits ≤ 256
+channel-byte m known = pow_mono {j = 8} (omega (arith, (lawful_of m known).shades.most))
 
 -- endpoints within a mode's width, each as one number, stand for themselves
-module _ (n : ℕ) (ends : List Rgb) (four : length ends ≡ 4) (stored : Stored (mode_numbered n) ends) where
+module _ (m : Mode) (known : IsMode m) (ends : List Rgb) (four : length ends ≡ 4) (stored : Stored m ends) where
   abbrev end : ℕ → Rgb
   end k = get_or ends k black
 
   again : (k : ℕ) → k < 4 → pixel_of (pixel_word (end k)) ≡ end k
   again k h =
-      let b : Below (2 ^ (mode_numbered n).channel_bits) (end k) = stored k h in
-      let top : 2 ^ (mode_numbered n).channel_bits ≤ 256 = channel-byte n in
+      let b : Below (2 ^ m.channel_bits) (end k) = stored k h in
+      let top : 2 ^ m.channel_bits ≤ 256 = channel-byte m known in
       word-pixel (end k) (record { r = lt_of_lt_of_le b.r top; g = lt_of_lt_of_le b.g top; b = lt_of_lt_of_le b.b top })
 
   pub words-again : map pixel_of (map pixel_word ends) ≡ ends
@@ -41,7 +41,7 @@ module _ (n : ℕ) (ends : List Rgb) (four : length ends ≡ 4) (stored : Stored
       ∙ rw (again 0 (omega arith), again 1 (omega arith), again 2 (omega arith), again 3 (omega arith)) es
 
 -- a candidate that the checks accept is the one that its numbers stand for
-pub candidate-again : (c : Candidate) → Good c → length c.ends ≡ 4 → word_candidate c.mode c.partition (map pixel_word c.ends) c.p ≡ c
+pub candidate-again : (c : Candidate) → Good c → length c.ends ≡ 4 → word_candidate (record { mode = c.mode; partition = c.partition; ends = map pixel_word c.ends; p = c.p }) ≡ c
 candidate-again c fit four =
     ap (λ (es : List Rgb). record { mode = c.mode; partition = c.partition; ends = es; p = c.p })
-    (words-again c.mode c.ends four (λ k h. fit.stored k (omega arith)))
+    (words-again (mode_numbered c.mode) (numbered c.mode) c.ends four (λ k h. fit.stored k (omega arith)))

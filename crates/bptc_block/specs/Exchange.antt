@@ -17,6 +17,12 @@ exchanged s k = pick (eqb (k / 2) s) (2 * s + (1 - k % 2)) k
 unfoldable pub exchanged_bits : Mode → ℕ → ℕ → ℕ
 exchanged_bits m s p = pick (eqb m.p_bits 2) p (sum (map (λ (k : ℕ). bit p (exchanged s k) * 2 ^ k) (up_from 0 4)))
 
+-- the p-bits when each subset is exchanged or not
+abbrev pub exchanged_both : Mode → Bool → Bool → ℕ → ℕ
+exchanged_both m t u p =
+    let once : ℕ = pick t (exchanged_bits m 0 p) p in
+    pick u (exchanged_bits m 1 once) once
+
 -- subset s exchanged: its endpoints and their p-bits change places, and each of its indices is taken from the largest
 unfoldable pub flipped : Mode → ℕ → Fields → Fields
 flipped m s f =

@@ -11,6 +11,7 @@ use Rattle.bptc.specs.Pixels.{pixel_of}
 use Rattle.bptc_block.specs.declared.Fields.{Fields}
 use Rattle.bptc_block.specs.declared.Words.{Words}
 use Rattle.bptc_block.specs.declared.Candidate.{Candidate}
+use Rattle.bptc_block.specs.declared.CandidateWords.{CandidateWords}
 use Rattle.bptc_block.specs.declared.PBits.{PBits}
 use Rattle.bptc_block.specs.declared.PBits.TheVariants.{Free, Fixed}
 
@@ -27,9 +28,9 @@ abbrev pub word_fields : ℕ → Words → Fields
 word_fields bits w =
     record { partition = w.partition; ends = map pixel_of w.ends; p = w.p; indices = split (replicate 16 bits) w.indexes }
 
--- the candidate that numbers stand for, an endpoint as one
-abbrev pub word_candidate : ℕ → ℕ → List ℕ → PBits → Candidate
-word_candidate mode partition ends p = record { mode = mode; partition = partition; ends = map pixel_of ends; p = p }
+-- the candidate that words stand for
+abbrev pub word_candidate : CandidateWords → Candidate
+word_candidate w = record { mode = w.mode; partition = w.partition; ends = map pixel_of w.ends; p = w.p }
 
 -- a candidate's p-bits as two numbers: fixed where the second is 0, and else free
 abbrev pub p_bits_of : ℕ → ℕ → PBits

@@ -2,7 +2,7 @@
 use Rattle.std.specs.Prelude.{ℕ, List, eqb, length}
 use Rattle.lists.specs.Tests.{pick}
 use Rattle.bptc_block.specs.declared.Candidate.{Candidate}
-use Rattle.bptc_block.specs.declared.Finished.{Finished}
+use Rattle.bptc_block.specs.Answers.{Finished}
 use Rattle.bptc_block.specs.Finish.{finish}
 use Rattle.bptc_block.specs.Refusal.{check_pixels, check_block, check_candidate}
 

@@ -6,6 +6,7 @@ pub mod Compressed
 pub mod Refusal
 pub mod Checks
 pub mod Ranges
+pub mod Answers
 pub mod PackCall
 pub mod ReadCall
 pub mod MeasureCall

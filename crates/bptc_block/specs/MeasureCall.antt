@@ -1,7 +1,7 @@
 -- The call `measure`: its answer. It writes to no part.
 use Rattle.std.specs.Prelude.{ℕ, List, eqb}
 use Rattle.lists.specs.Tests.{pick}
-use Rattle.bptc_block.specs.declared.Measured.{Measured}
+use Rattle.bptc_block.specs.Answers.{Measured}
 use Rattle.bptc_block.specs.Chapter.{distance}
 use Rattle.bptc_block.specs.ReadCall.{read_refusal}
 

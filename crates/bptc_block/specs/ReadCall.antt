@@ -1,9 +1,9 @@
 -- The call `read`: its answer, and what the lent pixel part holds afterwards.
-use Rattle.std.specs.Prelude.{ℕ, List, eqb, length, replicate}
+use Rattle.std.specs.Prelude.{ℕ, List, eqb, length}
 use Rattle.lists.specs.Tests.{pick}
 use Rattle.bptc.specs.Mode.{Mode, mode_numbered}
-use Rattle.bptc.specs.Colour.{black, bytes_of}
-use Rattle.bptc_block.specs.declared.Reading.{Reading}
+use Rattle.bptc.specs.Colour.{bytes_of}
+use Rattle.bptc_block.specs.Answers.{BlockRead, reading_of, unread}
 use Rattle.bptc_block.specs.declared.Fields.{Fields}
 use Rattle.bptc_block.specs.Packed.{mode_of, fields_of}
 use Rattle.bptc_block.specs.Chapter.{colours}
@@ -13,21 +13,12 @@ use Rattle.bptc_block.specs.Refusal.{check_pixels, check_block, check_readable}
 unfoldable pub read_refusal : List ℕ → List ℕ → ℕ
 read_refusal block px = check_pixels (length px) (check_block (length block) (check_readable block 0))
 
--- the reading of a mode and its fields
-abbrev pub reading_of : ℕ → Fields → Reading
-reading_of mode f =
-    record { refusal = 0; mode = mode; partition = f.partition; ends = f.ends; p = f.p; indices = f.indices }
-
 -- the fields of a reading
-abbrev pub fields_read : Reading → Fields
+abbrev pub fields_read : BlockRead → Fields
 fields_read r = record { partition = r.partition; ends = r.ends; p = r.p; indices = r.indices }
 
--- a refusal, with all else zero
-abbrev pub unread : ℕ → Reading
-unread k = record { refusal = k; mode = 0; partition = 0; ends = replicate 4 black; p = 0; indices = replicate 16 0 }
-
 -- the answer: the block's mode and fields, or the refusal
-unfoldable pub read_of : List ℕ → List ℕ → Reading
+unfoldable pub read_of : List ℕ → List ℕ → BlockRead
 read_of block px =
     pick (eqb (read_refusal block px) 0) (reading_of (mode_of block) (fields_of (mode_numbered (mode_of block)) block)) (unread (read_refusal block px))
 

@@ -8,8 +8,9 @@ use Rattle.bptc_block.specs.declared.Fields.{Fields}
 use Rattle.bptc_block.specs.Packed.{fields_of}
 use Rattle.bptc_block.specs.Chapter.{colour_at, colours}
 use Rattle.bptc_block.specs.Exchange.{compressed}
+use Rattle.bptc_block.specs.Answers.{reading_of}
 use Rattle.bptc_block.specs.PackCall.{pack_of, pack_into}
-use Rattle.bptc_block.specs.ReadCall.{read_refusal, reading_of, fields_read, read_of, read_into}
+use Rattle.bptc_block.specs.ReadCall.{read_refusal, fields_read, read_of, read_into}
 use Rattle.bptc_block.specs.MeasureCall.{measure_of}
 use Rattle.bptc_block.specs.Ranges.{InRange}
 

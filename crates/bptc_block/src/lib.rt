@@ -23,7 +23,7 @@ pub struct Words {
     pub indexes: u64,
 }
 
-// The p-bits of a candidate: left to the finisher, or one number.
+// The p-bits of a candidate: left to the finisher, or one number. Not an Option: free p-bits are a choice, and none is missing.
 #[derive(Clone, Copy)]
 pub enum PBits {
     Free,
@@ -39,27 +39,18 @@ pub struct Candidate {
     pub p: PBits,
 }
 
-// The answer of `finish`; the block stands in the lent part.
+// The same proposal in fewer numbers: an endpoint is one, red lowest.
 #[derive(Clone, Copy)]
-pub struct Finished {
-    pub refusal: u8,
-    pub error: u32,
-}
-
-// The answer of `read`; the pixels stand in the lent part.
-#[derive(Clone, Copy)]
-pub struct Reading {
-    pub refusal: u8,
+pub struct CandidateWords {
     pub mode: u8,
     pub partition: u8,
-    pub ends: [Rgb; 4],
-    pub p: u8,
-    pub indices: [u8; 16],
+    pub ends: [u32; 4],
+    pub p: PBits,
 }
 
-// The answer of `measure`.
+// What `read` gives of a block; its pixels stand in the lent part.
 #[derive(Clone, Copy)]
-pub struct Measured {
-    pub refusal: u8,
-    pub error: u32,
+pub struct Reading {
+    pub mode: u8,
+    pub fields: Fields,
 }

@@ -10,8 +10,9 @@ use Rattle.lists.specs.Tests.{pick, all}
 use Rattle.lists.specs.Rows.{up_from, sum}
 use Rattle.lists.specs.Bits.{join}
 use Rattle.lists.proofs.Tables.{tested}
-use Rattle.bptc.specs.Mode.{Mode, mode1, mode3, largest}
+use Rattle.bptc.specs.Mode.{Mode, mode1, mode3, IsMode, largest}
 use Rattle.bptc.specs.Partition.{masks, anchors, mask_of, subset_of, anchor_of, ones_of}
+use Rattle.bptc.proofs.Modes.{by_mode}
 use Rattle.bptc_block.specs.Fields.{index_width}
 use Rattle.bptc_rust.specs.IndexList.{INDEXES-MASK}
 use Rattle.bptc_rust.specs.CompressedIndexList.{bits_repeat2_u16, bits_repeat3_u16}
@@ -69,6 +70,10 @@ masks1 = masks_of mode1 (omega arith) (omega arith) tt tt tt
 pub masks3 : Masks mode3
 unfolding largest bits_repeat2_u16 subset_of mask_of masks anchor_of anchors index_width digits join
 masks3 = masks_of mode3 (omega arith) (omega arith) tt tt tt
+
+-- either mode
+pub masks_in : (m : Mode) → IsMode m → Masks m
+masks_in = by_mode Masks masks1 masks3
 
 -- the bits of subset 1's indexes are the mask that the Rust makes
 pub ones_repeated : (m : Mode) → Masks m → (part : ℕ) → part < 64 → ones_of m.index_bits part ≡ repeated m part

@@ -13,13 +13,14 @@ use Rattle.lists.proofs.Tables.{tested}
 use Rattle.lists.proofs.Rows.{listed}
 use Rattle.lists.proofs.Bits.{join_single}
 use Rattle.bptc.specs.declared.Rgb.{Rgb}
-use Rattle.bptc.specs.Mode.{Mode, mode1, mode3}
+use Rattle.bptc.specs.Mode.{Mode, mode1, mode3, IsMode}
 use Rattle.bptc.specs.Colour.{black}
 use Rattle.bptc.specs.Shown.{Stored}
+use Rattle.bptc.proofs.Modes.{by_mode}
 use Rattle.bptc_block.specs.declared.Fields.{Fields}
 use Rattle.bptc_block.specs.Fields.{Plain, WellFormed, index_width, front_widths, front_values, widths, values}
 use Rattle.bptc_block.specs.Packed.{packed}
-use Rattle.bptc_block.specs.Exchange.{exchanged_bits, flipped, swapped_ends, turned_bits, anchored, compressed}
+use Rattle.bptc_block.specs.Exchange.{exchanged_bits, exchanged_both, flipped, swapped_ends, turned_bits, anchored, compressed}
 use Rattle.bptc_block.proofs.Widths.{join_front}
 use Rattle.bptc_block.proofs.Modes.{Lawful}
 use Rattle.bptc_block.proofs.Exchanging.{compressed-partition, compressed_formed}
@@ -40,36 +41,40 @@ ends_turned m f true false four = refl
 ends_turned m f false true four = refl
 ends_turned m f false false four = listed black f.ends 4 four
 
--- the test of mode 3's p-bits after both exchanges
-abbrev both_test : Bool → Bool → ℕ → Bool
-both_test t u p =
-    let once : ℕ = pick t (exchanged_bits mode3 0 p) p in
-    eqb (turned_bits t (p % 4) + turned_bits u (p / 4 % 4) * 4) (pick u (exchanged_bits mode3 1 once) once)
+-- the p-bits after both exchanges
+bits_turned : (m : Mode) (f : Fields) (t u : Bool) → exchanged_both m t u f.p ≡ (pick u (flipped m 1 (pick t (flipped m 0 f) f)) (pick t (flipped m 0 f) f)).p
+unfolding flipped
+bits_turned m f true true = refl
+bits_turned m f true false = refl
+bits_turned m f false true = refl
+bits_turned m f false false = refl
 
-bits-both : (t u : Bool) (p : ℕ) → p < 16 →
-    turned_bits t (p % 4) + turned_bits u (p / 4 % 4) * 4 ≡ pick u (exchanged_bits mode3 1 (pick t (exchanged_bits mode3 0 p) p)) (pick t (exchanged_bits mode3 0 p) p)
+-- the test of mode 3's
+abbrev both_test : Bool → Bool → ℕ → Bool
+both_test t u p = eqb (turned_bits t (p % 4) + turned_bits u (p / 4 % 4) * 4) (exchanged_both mode3 t u p)
+
+bits-both : (t u : Bool) (p : ℕ) → p < 16 → turned_bits t (p % 4) + turned_bits u (p / 4 % 4) * 4 ≡ exchanged_both mode3 t u p
 unfolding exchanged_bits
 bits-both true true p h = eqb→eq _ _ (tested (both_test true true) 16 tt p h)
 bits-both true false p h = eqb→eq _ _ (tested (both_test true false) 16 tt p h)
 bits-both false true p h = eqb→eq _ _ (tested (both_test false true) 16 tt p h)
 bits-both false false p h = eqb→eq _ _ (tested (both_test false false) 16 tt p h)
 
--- the p-bits of mode 3 after both exchanges
-pub bits-turned : (f : Fields) (t u : Bool) → f.p < 16 →
-    turned_bits t (f.p % 4) + turned_bits u (f.p / 4 % 4) * 4 ≡ (pick u (flipped mode3 1 (pick t (flipped mode3 0 f) f)) (pick t (flipped mode3 0 f) f)).p
-unfolding flipped
-bits-turned f true true h = bits-both true true f.p h
-bits-turned f true false h = bits-both true false f.p h
-bits-turned f false true h = bits-both false true f.p h
-bits-turned f false false h = bits-both false false f.p h
-
 -- in mode 1 they stay
-pub bits_stay : (f : Fields) (t u : Bool) → f.p ≡ (pick u (flipped mode1 1 (pick t (flipped mode1 0 f) f)) (pick t (flipped mode1 0 f) f)).p
-unfolding flipped exchanged_bits
-bits_stay f true true = refl
-bits_stay f true false = refl
-bits_stay f false true = refl
-bits_stay f false false = refl
+bits_stay : (t u : Bool) (p : ℕ) → p ≡ exchanged_both mode1 t u p
+unfolding exchanged_bits
+bits_stay true true p = refl
+bits_stay true false p = refl
+bits_stay false true p = refl
+bits_stay false false p = refl
+
+-- four p-bits are exchanged two by two, and two stay
+pub bits-exchanged : (m : Mode) → IsMode m → (t u : Bool) (p : ℕ) → p < 2 ^ m.p_bits →
+    pick (eqb m.p_bits 4) (turned_bits t (p % 4) + turned_bits u (p / 4 % 4) * 4) p ≡ exchanged_both m t u p
+bits-exchanged =
+    by_mode (λ (m : Mode). (t u : Bool) (p : ℕ) → p < 2 ^ m.p_bits → pick (eqb m.p_bits 4) (turned_bits t (p % 4) + turned_bits u (p / 4 % 4) * 4) p ≡ exchanged_both m t u p)
+    (λ t u p h. bits_stay t u p)
+    (λ t u p h. bits-both t u p h)
 
 -- the fields that a writer of fields is handed: they are those of the compressed fields
 pub record Ready (m : Mode) (f : Fields) (ends : List Rgb) (p n : ℕ) : Type 0 where
@@ -122,10 +127,10 @@ module _ (m : Mode) (law : Lawful m) (known : Masks m) (f : Fields) (plain : Pla
     -- with the endpoints swapped as it says, and the p-bits p
     pub ready : (t u : Bool) (n p : ℕ) → n ≡ (compress_p2 m.index_bits w (PARTITION-SET-2 f.partition)).0.compressed_indexes →
         t ≡ (compress_p2 m.index_bits w (PARTITION-SET-2 f.partition)).1 → u ≡ (compress_p2 m.index_bits w (PARTITION-SET-2 f.partition)).2 →
-        p ≡ (pick u (flipped m 1 (pick t (flipped m 0 f) f)) (pick t (flipped m 0 f) f)).p → Ready m f (swapped_ends f.ends t u) p n
+        p ≡ exchanged_both m t u f.p → Ready m f (swapped_ends f.ends t u) p n
     unfolding compressed anchored
     ready t u n p e₀ e₁ e₂ bits =
         let t' : t ≡ swap₀ m law known f plain = e₁ ∙ ap (λ r. r.1) steps in
         let u' : u ≡ swap₁ m law known f plain = e₂ ∙ ap (λ r. r.2) steps in
         ready_of (swapped_ends f.ends t u) p n (rw (t', u') (ends_turned m f (swap₀ m law known f plain) (swap₁ m law known f plain) plain.four))
-        (rw (t', u') at bits) (e₀ ∙ ap (λ r. r.0.compressed_indexes) steps)
+        (rw (t', u') at (bits ∙ bits_turned m f t u)) (e₀ ∙ ap (λ r. r.0.compressed_indexes) steps)

@@ -1,50 +1,49 @@
 // Prints what the seven calls give for worked and drawn examples; the gate holds it to the file `stdout`.
 #![tactic(auto)]
 
+mod answers;
+mod call_lists;
 mod chooses;
+mod drawn;
 mod finishes;
+mod generator;
+mod hex;
 mod inputs;
-mod out;
+mod modes;
+mod orders;
 mod packs;
 mod reads;
-mod sequences;
 
+use generator::Kind;
+use modes::Mode;
 use std::io;
 
 // The examples, one after the other.
 fn main(rt: HostRuntime) -> io::Result<()> {
-    packs::put_blocks(&rt)?;
-    packs::put_lengths(&rt)?;
-    packs::put_numbers(&rt)?;
-    reads::put_first(&rt, 0)?;
-    reads::put_first(&rt, 1)?;
-    reads::put_first(&rt, 4)?;
-    reads::put_first(&rt, 128)?;
-    reads::put_first(&rt, 2)?;
-    reads::put_first(&rt, 8)?;
-    reads::put_lengths(&rt)?;
-    reads::put_drawn(&rt, 1)?;
-    reads::put_drawn(&rt, 3)?;
-    finishes::put_worked(&rt)?;
-    finishes::put_lengths(&rt)?;
-    finishes::put_numbers(&rt)?;
-    finishes::put_grey(&rt, b"black", 0, 1, 63, 3)?;
-    finishes::put_grey(&rt, b"white", 255, 1, 63, 3)?;
-    finishes::put_grey(&rt, b"black", 0, 3, 127, 15)?;
-    finishes::put_grey(&rt, b"white", 255, 3, 127, 15)?;
-    finishes::put_indices(&rt, 1, 0b1010)?;
-    finishes::put_indices(&rt, 0, 0b0101)?;
-    finishes::put_tie(&rt)?;
-    finishes::put_partitions(&rt, 1)?;
-    finishes::put_partitions(&rt, 3)?;
-    chooses::put_worked(&rt)?;
-    chooses::put_starts(&rt)?;
-    chooses::put_takes(&rt)?;
-    chooses::put_declined(&rt)?;
-    chooses::put_accepted(&rt)?;
-    chooses::put_made_up(&rt, 0)?;
-    chooses::put_made_up(&rt, 4294967295)?;
-    sequences::put_lists(&rt)?;
-    sequences::put_orders(&rt, 2)?;
-    sequences::put_orders(&rt, 4)
+    packs::print_blocks(&rt)?;
+    packs::print_lengths(&rt)?;
+    packs::print_numbers(&rt)?;
+    reads::print_first_bytes(&rt)?;
+    reads::print_lengths(&rt)?;
+    reads::print_drawn(&rt, Mode::One)?;
+    reads::print_drawn(&rt, Mode::Three)?;
+    finishes::print_worked(&rt)?;
+    finishes::print_lengths(&rt)?;
+    finishes::print_numbers(&rt)?;
+    finishes::print_greys(&rt)?;
+    finishes::print_indices(&rt, 1, 0b1010)?;
+    finishes::print_indices(&rt, 0, 0b0101)?;
+    finishes::print_tie(&rt)?;
+    finishes::print_partitions(&rt, Mode::One)?;
+    finishes::print_partitions(&rt, Mode::Three)?;
+    chooses::print_worked(&rt)?;
+    chooses::print_starts(&rt)?;
+    chooses::print_takes(&rt)?;
+    chooses::print_declined(&rt)?;
+    chooses::print_accepted(&rt)?;
+    chooses::print_made_up(&rt, 0)?;
+    chooses::print_made_up(&rt, u32::MAX)?;
+    call_lists::print_lists(&rt)?;
+    orders::print_orders(&rt, Kind::Extreme)?;
+    orders::print_orders(&rt, Kind::Bit)
 }

@@ -1,181 +1,162 @@
 // Blocks read and measured, the refusals of both, and drawn blocks that are read, packed again and measured.
-use crate::inputs::{ANY, changed, differences, draw, fill};
-use crate::out::{line, put, put_byte, put_part, put_word, say};
-use block::{Reading, Rgb};
-use std::io;
+use crate::answers::Answer;
+use crate::generator::{Generator, Kind};
+use crate::hex::Hex;
+use crate::inputs::{KEPT, changed, fields};
+use crate::modes::Mode;
+use block::{Fields, Reading, Rgb};
+use refusals::number;
+use std::{array, fmt, io};
 
 // The blocks drawn in each mode.
 const BLOCKS: u32 = 256;
 
-// What a drawn block gives: the generator's number after it, the sum with all that was read, and whether it came back as it was.
+// Prints the channels of endpoints.
 #[derive(Clone, Copy)]
-struct Tried {
-    seed: u64,
-    sum: u32,
-    kept: bool,
+struct Channels([Rgb; 4]);
+
+impl fmt::Display for Channels {
+    fn fmt<W: fmt::Write>(&self, f: &mut fmt::Formatter<W>) -> fmt::Result {
+        for Rgb { r, g, b } in self.0 {
+            write!(f, "{}", Hex(&[r, g, b]))?;
+        }
+        Ok(())
+    }
 }
 
-// All fields of a reading: mode, partition, the channels of its endpoints, p-bits and indices.
-fn put_fields(rt: &impl Print, r: Reading) -> io::Result<()> {
-    let ends = r.ends;
-    let a = ends[0];
-    let b = ends[1];
-    let c = ends[2];
-    let d = ends[3];
-    let channels = [a.r, a.g, a.b, b.r, b.g, b.b, c.r, c.g, c.b, d.r, d.g, d.b];
-    let indices = r.indices;
-    say(rt, b" fields")?;
-    put_byte(rt, r.mode)?;
-    put_byte(rt, r.partition)?;
-    put_part(rt, &channels)?;
-    put_byte(rt, r.p)?;
-    put_part(rt, &indices)
+// Prints fields: partition, the channels of the endpoints, p-bits and indices.
+#[derive(Clone, Copy)]
+struct Shown(Fields);
+
+impl fmt::Display for Shown {
+    fn fmt<W: fmt::Write>(&self, f: &mut fmt::Formatter<W>) -> fmt::Result {
+        let Fields {
+            partition,
+            ends,
+            p,
+            indices,
+        } = self.0;
+        let ends = Channels(ends);
+        write!(f, "{partition} {ends} {p} {}", Hex(indices.as_slice()))
+    }
 }
 
-// A block read into a lent part, and measured against what that then holds.
-fn put_read(rt: &impl Print, part: &[u8], pixels: &mut [u8]) -> io::Result<()> {
-    fill(pixels);
-    let r = block::read(part, pixels);
-    let m = block::measure(part, pixels);
-    say(rt, b"read")?;
-    put_byte(rt, r.refusal)?;
-    put(rt, changed(pixels) as u64)?;
-    put_fields(rt, r)?;
-    say(rt, b" measured")?;
-    put_byte(rt, m.refusal)?;
-    put_word(rt, m.error)?;
-    line(rt)
+// A block read into a lent part, and measured against what that then holds. Of a block that is not read all fields are 0.
+fn print_read(rt: &impl Print, block: &[u8], pixels: &mut [u8]) -> io::Result<()> {
+    pixels.fill(KEPT);
+    let read = block::read(block, pixels);
+    let refusal = number(read.map(|_| ()));
+    let changed = changed(pixels);
+    let Reading { mode, fields } = read.unwrap_or(Reading {
+        mode: 0,
+        fields: fields(0, 0, 0, 0),
+    });
+    let measured = Answer(block::measure(block, pixels));
+    println!(rt;
+        "read {refusal} {changed} fields {mode} {} measured {measured}",
+        Shown(fields)
+    )
 }
 
-// P12: a block whose byte 0 alone is not zero.
-pub(crate) fn put_first(rt: &impl Print, first: u8) -> io::Result<()> {
-    let mut part = [0u8; 16];
-    part[0] = first;
-    let mut pixels = [0u8; 48];
-    put_read(rt, &part, &mut pixels)
+// P12: blocks whose byte 0 alone is not zero, and the block of zeros.
+pub(crate) fn print_first_bytes(rt: &impl Print) -> io::Result<()> {
+    for first in [0, 1, 4, 128, 2, 8] {
+        let mut block = [0u8; 16];
+        block[0] = first;
+        print_read(rt, &block, &mut [0; 48])?;
+    }
+    Ok(())
 }
 
 // The refusals of read and measure by the lengths of their parts.
-pub(crate) fn put_lengths(rt: &impl Print) -> io::Result<()> {
-    let none = [2u8; 0];
-    let short = [2u8; 15];
-    let part = [2u8; 16];
-    let long = [2u8; 17];
-    let mut pixels = [0u8; 48];
-    let mut less = [0u8; 47];
-    let mut more = [0u8; 49];
-    put_read(rt, &part, &mut less)?;
-    put_read(rt, &part, &mut more)?;
-    put_read(rt, &none, &mut pixels)?;
-    put_read(rt, &short, &mut pixels)?;
-    put_read(rt, &long, &mut pixels)?;
-    put_read(rt, &short, &mut less)
-}
-
-// A drawn byte 0, with the lowest bits of a mode.
-fn marked(mode: u8, first: u8) -> u8 {
-    match mode {
-        1 => first / 4 * 4 + 2,
-        _ => first / 16 * 16 + 8,
+pub(crate) fn print_lengths(rt: &impl Print) -> io::Result<()> {
+    let block = [2u8; 17];
+    let mut pixels = [0u8; 49];
+    for (of_block, of_pixels) in [(16, 47), (16, 49), (0, 48), (15, 48), (17, 48), (15, 47)] {
+        print_read(rt, &block[..of_block], &mut pixels[..of_pixels])?;
     }
+    Ok(())
 }
 
-// Takes one more number into a sum.
-fn mix(sum: u32, n: u32) -> u32 {
-    (sum % 65536 * 31 + n % 65536) % 65536
-}
+// A sum of numbers below 65536 that depends on their order.
+#[derive(Clone, Copy, Default)]
+struct Sum(u16);
 
-// Takes a byte into a sum.
-fn mix_byte(sum: u32, n: u8) -> u32 {
-    mix(sum, n as u32)
-}
-
-// Takes every byte of a part into a sum.
-fn mix_part(sum: u32, part: &[u8]) -> u32 {
-    let mut s = sum;
-    let mut i: usize = 0;
-    while i < part.len() {
-        s = mix_byte(s, part[i]);
-        i += 1;
+impl Sum {
+    // Takes in one more number.
+    fn add(&mut self, n: u16) {
+        self.0 = self.0.wrapping_mul(31).wrapping_add(n);
     }
-    s
-}
 
-// Takes a colour into a sum.
-fn mix_colour(sum: u32, c: Rgb) -> u32 {
-    mix_byte(mix_byte(mix_byte(sum, c.r), c.g), c.b)
+    // Takes in bytes.
+    fn add_bytes(&mut self, bytes: &[u8]) {
+        for byte in bytes {
+            self.add(u16::from(*byte));
+        }
+    }
+
+    // Takes in all that was read of a block.
+    fn add_reading(&mut self, reading: Reading, pixels: &[u8]) {
+        let Fields {
+            partition,
+            ends,
+            p,
+            indices,
+        } = reading.fields;
+        self.add_bytes(&[reading.mode, partition, p]);
+        for Rgb { r, g, b } in ends {
+            self.add_bytes(&[r, g, b]);
+        }
+        self.add_bytes(&indices);
+        self.add_bytes(pixels);
+    }
+
+    // Takes in an error, the lower half first.
+    fn add_error(&mut self, error: u32) {
+        self.add((error % 65536) as u16);
+        self.add((error / 65536) as u16);
+    }
 }
 
 // A picture to measure against.
 fn ramp() -> [u8; 48] {
-    let mut out = [0u8; 48];
-    let mut i: usize = 0;
-    while i < 48 {
-        out[i] = (i * 5) as u8;
-        i += 1;
-    }
-    out
-}
-
-// Takes all that was read of a block into a sum.
-fn mix_reading(sum: u32, r: Reading, pixels: &[u8]) -> u32 {
-    let ends = r.ends;
-    let indices = r.indices;
-    let mut s = mix_byte(mix_byte(mix_byte(sum, r.mode), r.partition), r.p);
-    let mut k: usize = 0;
-    while k < 4 {
-        s = mix_colour(s, ends[k]);
-        k += 1;
-    }
-    mix_part(mix_part(s, &indices), pixels)
+    array::from_fn(|i| (i * 5) as u8)
 }
 
 // Packs what was read of a block, and measures it against its own pixels: both give back what there was.
-fn comes_back(part: &[u8; 16], r: Reading, pixels: &[u8]) -> bool {
-    let ends = r.ends;
-    let indices = r.indices;
+fn comes_back(block: &[u8; 16], reading: Reading, pixels: &[u8]) -> bool {
     let mut again = [0u8; 16];
-    let refusal = block::pack(r.mode, r.partition, ends, r.p, indices, &mut again);
-    let own = block::measure(part, pixels);
-    differences(part, &again) == 0 && refusal == 0 && own.refusal == 0 && own.error == 0
+    block::pack(reading.mode, reading.fields, &mut again).is_ok()
+        && again == *block
+        && block::measure(block, pixels) == Ok(0)
 }
 
-// Draws a block of a mode, reads it, and measures it against the ramp.
-fn try_block(mode: u8, seed: u64, sum: u32) -> Tried {
-    let mut part = [0u8; 16];
-    let after = draw(seed, ANY, &mut part);
-    part[0] = marked(mode, part[0]);
+// Reads a block, measures it against the ramp, and takes both into a sum: whether the block comes back.
+fn try_block(block: &[u8; 16], sum: &mut Sum) -> bool {
     let mut pixels = [0u8; 48];
-    let r = block::read(&part, &mut pixels);
-    let picture = ramp();
-    let far = block::measure(&part, &picture);
-    let all = mix_reading(sum, r, &pixels);
-    Tried {
-        seed: after,
-        sum: mix(mix(all, far.error % 65536), far.error / 65536),
-        kept: comes_back(&part, r, &pixels),
-    }
+    let (Ok(reading), Ok(far)) = (
+        block::read(block, &mut pixels),
+        block::measure(block, &ramp()),
+    ) else {
+        return false;
+    };
+    sum.add_reading(reading, &pixels);
+    sum.add_error(far);
+    comes_back(block, reading, &pixels)
 }
 
-// Drawn blocks of a mode: those that did not come back as they were, and the sum.
-pub(crate) fn put_drawn(rt: &impl Print, mode: u8) -> io::Result<()> {
-    let mut seed = mode as u64;
-    let mut sum: u32 = 0;
+// Drawn blocks of a mode: how many did not come back, and the sum.
+pub(crate) fn print_drawn(rt: &impl Print, mode: Mode) -> io::Result<()> {
+    let mode_number = u8::from(mode);
+    let mut generator = Generator::new(u32::from(mode_number));
+    let mut sum = Sum::default();
     let mut differ: u32 = 0;
-    let mut k: u32 = 0;
-    while k < BLOCKS {
-        let t = try_block(mode, seed, sum);
-        seed = t.seed;
-        sum = t.sum;
-        if !t.kept {
-            differ += 1;
+    for _ in 0..BLOCKS {
+        let mut block: [u8; 16] = generator.draw(Kind::Any);
+        block[0] = mode.first_byte(block[0]);
+        if !try_block(&block, &mut sum) {
+            differ = differ.saturating_add(1);
         }
-        k += 1;
     }
-    say(rt, b"drawn")?;
-    put_byte(rt, mode)?;
-    put_word(rt, BLOCKS)?;
-    put_word(rt, differ)?;
-    put_word(rt, sum)?;
-    line(rt)
+    println!(rt; "drawn {mode_number} {BLOCKS} {differ} {}", sum.0)
 }

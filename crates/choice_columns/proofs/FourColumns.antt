@@ -6,7 +6,7 @@ use Rattle.keys.proofs.FirstKey.{least4_le}
 use Rattle.search.proofs.Columns.{column_at_lem, columns_small}
 use Rattle.choice_columns.specs.Columns.{columns_of4, column_at}
 
-module _ (key : ℕ → ℕ → ℕ) (columns : List (List ℕ)) (made : columns ≡ map (columns_of4 key) (up_from 0 16)) where
+module _ (key : ℕ → ℕ → ℕ) (columns : List (List ℕ)) (made : columns ≡ map (λ (i : ℕ). columns_of4 (key i)) (up_from 0 16)) where
   -- the number in a column
   pub column4 : (i c : ℕ) → i < 16 → c < 4 → column_at columns c i ≡ least_of4 (λ (row : ℕ). key i (c + row * 4))
   unfolding columns_of4

@@ -57,3 +57,11 @@ pub four-next : (g h : ℕ → ℕ) (step : ℕ → ℕ → ℕ) (xs ys : List �
 four-next g h step xs ys a b c d e f ea eb ec ed =
     f ∙ ap (λ (xs : List ℕ). step (get_or xs 0 0) a ∷ (step (get_or xs 1 0) b ∷ (step (get_or xs 2 0) c ∷ (step (get_or xs 3 0) d ∷ [])))) e
     ∙ (λ t. ea t ∷ (eb t ∷ (ec t ∷ (ed t ∷ []))))
+
+-- four numbers below a bound
+pub four_below : {a b c d top : ℕ} → a < top → b < top → c < top → d < top → (k : ℕ) → get_or (a ∷ (b ∷ (c ∷ (d ∷ [])))) k 0 < top
+four_below ha hb hc hd zero = ha
+four_below ha hb hc hd (suc zero) = hb
+four_below ha hb hc hd (suc (suc zero)) = hc
+four_below ha hb hc hd (suc (suc (suc zero))) = hd
+four_below ha hb hc hd (suc (suc (suc (suc k)))) = omega arith

@@ -136,7 +136,7 @@ module _ (ends : List Rgb) (stored : Stored mode3 ends) where
         rw made (made-key 8 32 (choice_colour ends) (λ (k : ℕ). k / 4 % 4) k l p ∙ rw (x, y, z))
 
     -- the columns of the pixels' keys
-    module _ (columns : List (List ℕ)) (out : columns ≡ map (columns_of4 choice_key) (up_from 0 16)) where
+    module _ (columns : List (List ℕ)) (out : columns ≡ map (λ (i : ℕ). columns_of4 (choice_key i)) (up_from 0 16)) where
       -- the least key of a column tells the nearest index at its p-bits, and the distance
       column_is : (c i : ℕ) → i < 16 → c < 4 →
           column_at columns c i ≡ raised_in mode3 ends (column_bits c) mask (colours_of px) i * 8 + index_in mode3 ends (column_bits c) mask (colours_of px) i

@@ -14,10 +14,11 @@ ghost use Rattle.choices.specs.Choices.{column_bits};
 use crate::best::best4;
 use crate::choice::choice_numbers;
 use bptc::Rgb;
-use choice_columns::least::search16;
+use choice_columns::least::Choices;
 use choice_columns::sums::{ColumnSums, column_sums};
 use closest::pick::{Picked, mix};
 use partitions::{entry2, mask};
+use search::block_columns;
 
 mod best;
 mod choice;
@@ -39,8 +40,7 @@ fn choices(ends: [Rgb; 4], px: &[u8], mask: u32) -> ColumnSums
     ensures words { result.words ≡ map (λ c. indexes_in mode3 ends (column_bits c) mask (colours_of px.now)) (up_from 0 4) }
 {
     let numbers = choice_numbers(ends);
-    let keys = search16(px, mask, &numbers);
-    column_sums(&keys, mask)
+    column_sums(&block_columns::<Choices>(px, mask, &numbers), mask)
 }
 
 // Each subset by itself keeps the first choice of least error.

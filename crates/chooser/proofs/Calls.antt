@@ -17,8 +17,7 @@ use Rattle.bptc_block.proofs.Refusals.{number_said}
 use Rattle.bptc_block.proofs.FinishCall.{finish-declines, finish-answer, finish-block}
 use Rattle.bptc_block.proofs.Promise.{finish-keeps}
 use Rattle.chooser.specs.declared.Chooser.{Chooser}
-use Rattle.chooser.specs.declared.Offered.{Offered}
-use Rattle.chooser.specs.declared.Taken.{Taken}
+use Rattle.chooser.specs.Answers.{Offered, Taken}
 use Rattle.chooser.specs.StartCall.{start_refusal, empty_over, black_pixels, started_over, start_of}
 use Rattle.chooser.specs.OfferCall.{offer_refusal, finish_gives, kept, accepting, offer_of}
 use Rattle.chooser.specs.TakeCall.{take_refusal, take_of, take_into}

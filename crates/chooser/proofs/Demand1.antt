@@ -2,17 +2,14 @@
 use mathlib.Core.Path.{◌≡◌, refl, sym, ap, ◌∙◌, subst}
 use lib.ListN.{length}
 use borrow.Author.Tests.{eq-eqb}
-use Rattle.bptc_block.specs.declared.Finished.{Finished}
-use Rattle.bptc_block.specs.declared.Measured.{Measured}
+use Rattle.bptc_block.specs.Answers.{Finished, Measured, unread}
 use Rattle.bptc_block.specs.Checks.{NotDeclined, PixelsChecked, BlockChecked, CandidateChecked, ReadableChecked}
-use Rattle.bptc_block.specs.ReadCall.{unread}
 use Rattle.bptc_block.specs.FinishCall.{finish_refusal}
 use Rattle.bptc_block.proofs.Checks.{pixels-checked, block-checked, candidate-checked}
 use Rattle.bptc_block.proofs.PackCall.{pack-checked, pack_leaves}
 use Rattle.bptc_block.proofs.ReadCall.{read_number, read-checked, read-declined, read_leaves, measure-number, measure-declined}
 use Rattle.bptc_block.proofs.FinishCall.{finish-number, finish-checked, finish-declined, finish_leaves}
-use Rattle.chooser.specs.declared.Offered.{Offered}
-use Rattle.chooser.specs.declared.Took.{Took}
+use Rattle.chooser.specs.Answers.{Offered, Took}
 use Rattle.chooser.specs.Demand1.{Demand1}
 use Rattle.chooser.proofs.Calls.{start-answer, started_own, started_black, offer-number, offer-declined, take-number, take-answer, take-declined, take_leaves, take-keeps}
 

@@ -17,8 +17,7 @@ use Rattle.bptc_block.specs.declared.Candidate.{Candidate}
 use Rattle.bptc_block.specs.Compressed.{Compressed}
 use Rattle.bptc_block.specs.Promise.{FinishPromise}
 use Rattle.chooser.specs.declared.Chooser.{Chooser}
-use Rattle.chooser.specs.declared.Started.{Started}
-use Rattle.chooser.specs.declared.Offered.{Offered}
+use Rattle.chooser.specs.Answers.{Started, Offered}
 use Rattle.chooser.specs.Rule.{invalid, better}
 use Rattle.chooser.specs.StartCall.{empty_over, started_over, start_of}
 use Rattle.chooser.specs.OfferCall.{offer_refusal, finish_gives, kept, accepting}

@@ -1,4 +1,5 @@
 pub mod Rule
+pub mod Answers
 pub mod StartCall
 pub mod OfferCall
 pub mod TakeCall

@@ -6,7 +6,7 @@ use Rattle.bptc_block.specs.Refusal.{check_candidate}
 use Rattle.bptc_block.specs.Compressed.{Compressed}
 use Rattle.bptc_block.specs.FinishCall.{finish_of, finish_into}
 use Rattle.chooser.specs.declared.Chooser.{Chooser}
-use Rattle.chooser.specs.declared.Offered.{Offered}
+use Rattle.chooser.specs.Answers.{Offered}
 use Rattle.chooser.specs.Rule.{better}
 
 -- checks 3 to 6

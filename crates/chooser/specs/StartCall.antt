@@ -3,7 +3,7 @@ use Rattle.std.specs.Prelude.{ℕ, List, eqb, length, replicate}
 use Rattle.lists.specs.Tests.{pick}
 use Rattle.bptc_block.specs.Refusal.{check_pixels}
 use Rattle.chooser.specs.declared.Chooser.{Chooser}
-use Rattle.chooser.specs.declared.Started.{Started}
+use Rattle.chooser.specs.Answers.{Started}
 use Rattle.chooser.specs.Rule.{invalid}
 
 -- check 1

@@ -3,7 +3,7 @@ use Rattle.std.specs.Prelude.{ℕ, List, eqb, length}
 use Rattle.lists.specs.Tests.{pick}
 use Rattle.bptc_block.specs.Refusal.{check_block}
 use Rattle.chooser.specs.declared.Chooser.{Chooser}
-use Rattle.chooser.specs.declared.Took.{Took}
+use Rattle.chooser.specs.Answers.{Took}
 
 -- check 2
 abbrev pub take_refusal : List ℕ → ℕ

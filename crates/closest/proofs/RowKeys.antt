@@ -20,12 +20,10 @@ use Rattle.bptc.proofs.Modes.{Shades}
 use Rattle.bptc.proofs.Shading.{palette_byte, palettes-made, word-shown}
 use Rattle.bptc.specs.declared.Colour.{Colour}
 use Rattle.keys.specs.Keys.{least_of4, sum_key, raised, key_at, pixel_key, Steps}
-use Rattle.search.specs.Columns.{columns_of1, columns_of2}
-use Rattle.search.proofs.Columns.{best8, best4, columns_small2, columns_small1}
 use Rattle.lists.specs.Rows.{up_from}
 use Rattle.key_numbers.specs.Numbers.{flat_rows, numbers_of}
 use Rattle.closest.specs.Found.{index_in, raised_in, least_keys}
-use Rattle.keys.proofs.KeySums.{pixel-byte, key-sum, key_small}
+use Rattle.keys.proofs.KeySums.{pixel-byte, key-sum, key_small, small_each}
 use Rattle.key_numbers.proofs.Made.{made_range, made-key}
 use Rattle.keys.proofs.FirstKey.{Least, least-key}
 
@@ -40,13 +38,11 @@ module _ (m : Mode) (shades : Shades m) (few : largest m < 8) (ends : List Rgb) 
       ap pixel_of (get_or-each 0 (λ (k : ℕ). word_at rows (k / 8) (k % 8)) 16 (s * 8 + j) (omega arith) ∙ ap₂ (word_at rows) (digits_div s l) (digits_mod s l))
       ∙ word-shown m few ends p s j two index shades stored
 
--- the numbers made from the shown endpoints are those of the mode's palettes
-pub numbers_made : (m : Mode) (shades : Shades m) (few : largest m < 8) (ends : List Rgb) (p : ℕ) (shown : List Rgb) (rows : List (List Colour)) (numbers : List ℕ) →
-    shown ≡ map (end_shown m ends p) (up_from 0 4) → rows ≡ coloured (blended_rows (row_weights m) (suc (largest m)) shown) →
+-- the numbers made from them
+pub numbers_made : (palettes rows : List (List Colour)) (numbers : List ℕ) → rows ≡ palettes →
     numbers ≡ numbers_of 8 16 (λ (k : ℕ). pixel_of (get_or (flat_rows rows) k 0)) (λ (k : ℕ). k % 8) →
-    numbers ≡ numbers_of 8 16 (λ (k : ℕ). pixel_of (get_or (flat_rows (coloured (palettes m ends p))) k 0)) (λ (k : ℕ). k % 8)
-numbers_made m shades few ends p shown rows numbers e f g =
-    g ∙ ap (λ (rows : List (List Colour)). numbers_of 8 16 (λ (k : ℕ). pixel_of (get_or (flat_rows rows) k 0)) (λ (k : ℕ). k % 8)) (f ∙ palettes-made m shades few ends p shown e)
+    numbers ≡ numbers_of 8 16 (λ (k : ℕ). pixel_of (get_or (flat_rows palettes) k 0)) (λ (k : ℕ). k % 8)
+numbers_made palettes rows numbers e f = f ∙ ap (λ (rows : List (List Colour)). numbers_of 8 16 (λ (k : ℕ). pixel_of (get_or (flat_rows rows) k 0)) (λ (k : ℕ). k % 8)) e
 
 -- the numbers of a mode's palettes, and pixels
 module _ (m : Mode) (shades : Shades m) (few : largest m < 8) (ends : List Rgb) (p : ℕ) (stored : Stored m ends) (numbers : List ℕ)
@@ -105,25 +101,22 @@ module _ (m : Mode) (shades : Shades m) (few : largest m < 8) (ends : List Rgb) 
   keys_are best sixteen least =
       sym (listed 0 best 16 sixteen) ∙ each_same 0 _ _ 16 (λ i h. best_is i (get_or best i 0) (least i h))
 
-  -- the columns of the pixels' keys
-  module _ (columns : List (List ℕ)) where
-    -- of eight colours are small
-    pub below8 : columns ≡ map (columns_of2 row_key) (up_from 0 16) → (i c : ℕ) → get_or (get_or columns i []) c 0 < 2 ^ 23
-    below8 = columns_small2 row_key (2 ^ 23) (omega arith) columns key_below
+  -- the columns of the pixels' keys, of which the least is the least key, and the least of each pixel's
+  module _ (cols : (ℕ → ℕ) → List ℕ) (law : (key : ℕ → ℕ) → Least key (largest m) (least_of4 (λ (c : ℕ). get_or (cols key) c 0)))
+      (columns : List (List ℕ)) (out : columns ≡ map (λ (i : ℕ). cols (row_key i)) (up_from 0 16))
+      (best : List ℕ) (told : best ≡ map (λ (i : ℕ). least_of4 (λ (c : ℕ). get_or (get_or columns i []) c 0)) (up_from 0 16)) where
+    least_at : (i : ℕ) → i < 16 → Least (row_key i) (largest m) (least_of4 (λ (c : ℕ). get_or (get_or columns i []) c 0))
+    least_at i h = rw (out, get_or-each [] (λ (i : ℕ). cols (row_key i)) 16 i h) (law (row_key i))
 
-    -- and so are those of four
-    pub below4 : columns ≡ map (columns_of1 row_key) (up_from 0 16) → (i c : ℕ) → get_or (get_or columns i []) c 0 < 2 ^ 23
-    below4 = columns_small1 row_key (2 ^ 23) (omega arith) columns (λ i j h. key_below i j (omega arith))
+    -- they are the pixels' least keys
+    pub keys_told : best ≡ least_keys m ends p mask (colours_of px)
+    keys_told =
+        keys_are best (rw told (simp (length-map, length-up_from)))
+        (λ i h. rw (told, get_or-each 0 (λ (i : ℕ). least_of4 (λ (c : ℕ). get_or (get_or columns i []) c 0)) 16 i h) (least_at i h))
 
-    -- the least of a pixel's columns is its least key
-    module _ (best : List ℕ) (told : best ≡ map (λ (i : ℕ). least_of4 (λ (c : ℕ). get_or (get_or columns i []) c 0)) (up_from 0 16)) where
-      sixteen : length best ≡ 16
-      sixteen = rw told (simp (length-map, length-up_from))
-
-      -- where the mode has eight colours
-      pub told8 : largest m ≡ 7 → columns ≡ map (columns_of2 row_key) (up_from 0 16) → best ≡ least_keys m ends p mask (colours_of px)
-      told8 last e = keys_are best sixteen (λ i h. rw last (best8 columns best told row_key e i h))
-
-      -- where it has four
-      pub told4 : largest m ≡ 3 → columns ≡ map (columns_of1 row_key) (up_from 0 16) → best ≡ least_keys m ends p mask (colours_of px)
-      told4 last e = keys_are best sixteen (λ i h. rw last (best4 columns best told row_key e i h))
+    -- and small
+    pub keys_small : (i : ℕ) → get_or best i 0 < 2 ^ 23
+    keys_small i =
+        rw told
+        (small_each (λ (i : ℕ). least_of4 (λ (c : ℕ). get_or (get_or columns i []) c 0)) 16 (2 ^ 23) (omega arith)
+        (λ i h. omega (arith, (least_at i h).below 0 (omega arith), key_below i 0 (omega arith))) i)

@@ -1,7 +1,8 @@
 -- What least keys tell: the nearest indices as one number, and the raised distances in sum.
-use Prim.Native.Nat.{ℕ, ◌+◌, ◌*◌, ◌/◌, ◌%◌, ◌≤◌, ◌<◌}
+use Prim.Native.Nat.{ℕ, ◌+◌, ◌*◌, ◌/◌, ◌%◌, ◌^◌, ◌≤◌, ◌<◌}
 use native.Mathlib.Omega.{arith}
 use mathlib.Core.Path.{◌≡◌, ap, ◌∙◌}
+use mathlib.Core.Bool.{Bool, true, false}
 use mathlib.Core.List.{List, map}
 use lib.Arith.{digits_div}
 use lib.Dec.{eqb}
@@ -10,10 +11,11 @@ use Rattle.bptc.specs.declared.Rgb.{Rgb}
 use Rattle.lists.specs.Tests.{pick}
 use Rattle.lists.specs.Rows.{up_from, over_pixels}
 use Rattle.lists.specs.Digits.{bit}
-use Rattle.bptc.specs.Mode.{Mode, largest}
+use Rattle.bptc.specs.Mode.{Mode, IsMode, largest}
 use Rattle.bptc.specs.Colour.{black}
 use Rattle.lists.proofs.Rows.{get_or-each, each_same}
 use Rattle.lists.proofs.Sums.{pixels-same}
+use Rattle.bptc.proofs.Modes.{by_mode}
 use Rattle.bptc.proofs.NearestIndex.{nearest_small}
 use Rattle.lists.specs.Bits.{join}
 use Rattle.closest.specs.declared.Found.{Found}
@@ -55,3 +57,14 @@ pub keys_tell : (m : Mode) (ends : List Rgb) (p mask : ℕ) (cs : List Rgb) (bes
 unfolding least_keys
 keys_tell m ends p mask cs best e i h =
     rw e (get_or-each 0 (λ (i : ℕ). raised_in m ends p mask cs i * 8 + index_in m ends p mask cs i) 16 i h)
+
+-- and the index is the key's lowest digit
+pub index_digit : (m : Mode) → IsMode m → (x n : ℕ) → n ≤ largest m → (x * 8 + n) % 2 ^ m.index_bits ≡ n
+unfolding largest
+index_digit =
+    by_mode (λ (m : Mode). (x n : ℕ) → n ≤ largest m → (x * 8 + n) % 2 ^ m.index_bits ≡ n) (λ x n h. omega arith) (λ x n h. omega arith)
+
+-- one of two numbers is no more than both
+pub pick_most : (t : Bool) (a b : ℕ) → pick t b a ≤ a + b
+pick_most true a b = omega arith
+pick_most false a b = omega arith

@@ -10,36 +10,19 @@ const BITS: [u32; 16] = [
     1, 2, 4, 8, 16, 32, 64, 128, 256, 512, 1024, 2048, 4096, 8192, 16384, 32768,
 ];
 
-// A power of two. Requires an exponent up to 4.
-fn power(bits: u32) -> u32
-    requires { bits ≤ 4 }
-    ensures { result ≡ 2 ^ bits }
-{
-    1 << bits
-}
-
 // Sixteen indices of so many bits as one number, the first lowest. Requires indices of at most four bits.
 pub fn word(bits: u32, best: &[u32; 16]) -> u64
     requires { bits ≤ 4 }
     ensures { result ≡ join (replicate 16 bits) (map (λ i. get_or best.now i 0 % 2 ^ bits) (up_from 0 16)) }
 {
-    let size = power(bits);
+    let size = 1u32 << bits;
     let mut lo: u32 = 0;
     let mut hi: u32 = 0;
-    let mut i: usize = 0;
-    while i < 8 {
+    for i in 0..8 {
         lo = lo * size + best[7 - i] % size;
         hi = hi * size + best[15 - i] % size;
-        i += 1;
     }
-    lo as u64 + ((hi as u64) << (8 * bits))
-}
-
-// The summed raised distances of all pixels, and of those of subset 1.
-#[derive(Clone, Copy)]
-pub(crate) struct Sums {
-    pub all: u32,
-    pub second: u32,
+    u64::from(lo) + (u64::from(hi) << (8 * bits))
 }
 
 // A figure where a number is not 0, and 0 elsewhere.
@@ -55,28 +38,24 @@ pub fn sum(best: &[u32; 16]) -> u32
     ensures { result ≡ over_pixels (λ i. get_or best.now i 0 / 8) }
 {
     let mut all: u32 = 0;
-    let mut i: usize = 0;
-    while i < 16 {
-        all += best[i] / 8;
-        i += 1;
+    for key in best {
+        all += key / 8;
     }
     all
 }
 
-// The same, and the sum of those of subset 1. Requires keys below 2 ^ 23.
-pub(crate) fn summed(best: &[u32; 16], mask: u32) -> Sums
+// The same, and the sum of those of subset 1. Requires keys below 2 ^ 23. The loop has an index, since it goes along two arrays.
+pub(crate) fn summed(best: &[u32; 16], mask: u32) -> (u32, u32)
     requires { (i : ℕ) → get_or best.now i 0 < 2 ^ 23 }
-    ensures all { result.all ≡ over_pixels (λ i. get_or best.now i 0 / 8) }
-    ensures second { result.second ≡ over_pixels (λ i. pick (eqb (bit mask i) 1) (get_or best.now i 0 / 8) 0) }
+    ensures all { result.0 ≡ over_pixels (λ i. get_or best.now i 0 / 8) }
+    ensures second { result.1 ≡ over_pixels (λ i. pick (eqb (bit mask i) 1) (get_or best.now i 0 / 8) 0) }
 {
     let mut all: u32 = 0;
     let mut second: u32 = 0;
-    let mut i: usize = 0;
-    while i < 16 {
+    for i in 0..16 {
         let d = best[i] / 8;
         all += d;
         second += marked(mask & BITS[i], d);
-        i += 1;
     }
-    Sums { all, second }
+    (all, second)
 }

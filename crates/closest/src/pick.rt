@@ -1,5 +1,5 @@
 // What is picked of several searches.
-ghost use Rattle.std.specs.Prelude.{◌≡◌, ◌+◌, ◌≤◌};
+ghost use Rattle.std.specs.Prelude.{◌≡◌};
 ghost use Rattle.lists.specs.Tests.{pick};
 ghost use Rattle.closest.specs.Pick.{mixed};
 
@@ -11,15 +11,8 @@ pub struct Picked {
     pub p: u8,
 }
 
-// The second of two numbers where a test holds, and else the first.
-pub fn either(t: bool, a: u32, b: u32) -> u32
-    ensures { (result ≡ pick t b a) × (result ≤ a + b) }
-{
-    if t { b } else { a }
-}
-
-// The same of words.
-pub fn either_word(t: bool, a: u64, b: u64) -> u64
+// The second of two values where a test holds, and else the first.
+pub fn either<T: Copy>(t: bool, a: T, b: T) -> T
     ensures { result ≡ pick t b a }
 {
     if t { b } else { a }

@@ -12,7 +12,7 @@ use Rattle.lists.specs.Tests.{pick}
 use Rattle.figures.specs.Worst.{inserted, inserted_all, Descending, times, HoldsGreatest}
 
 -- one place passed: the greater key stays, and the lesser is carried on
-pub carried_on : (keys : List ℕ) (key i : ℕ) → i < length keys →
+carried_on : (keys : List ℕ) (key i : ℕ) → i < length keys →
     take (suc i) (set keys i (max (get_or keys i 0) key))
     ++ inserted (drop (suc i) (set keys i (max (get_or keys i 0) key))) (min (get_or keys i 0) key)
     ≡ take i keys ++ inserted (drop i keys) key
@@ -20,6 +20,11 @@ unfolding inserted
 carried_on [] key i h = absurd (omega arith)
 carried_on (x ∷ xs) key zero h = refl
 carried_on (x ∷ xs) key (suc i) h = ap {B = List ℕ} (λ l. x ∷ l) (carried_on xs key i (omega arith))
+
+-- where these are known to be the greater and the lesser
+pub passed : (keys : List ℕ) (key i greater lesser : ℕ) → i < length keys → greater ≡ max (get_or keys i 0) key → lesser ≡ min (get_or keys i 0) key →
+    take (suc i) (set keys i greater) ++ inserted (drop (suc i) (set keys i greater)) lesser ≡ take i keys ++ inserted (drop i keys) key
+passed keys key i greater lesser h e f = rw (e, f) (carried_on keys key i h)
 
 -- a key put into a list that grows by it
 put : List ℕ → ℕ → List ℕ

@@ -1,19 +1,28 @@
 -- Laws of the first refusal in a row of blocks.
-use Prim.Native.Nat.{ℕ, zero, suc, ◌+◌, ◌≤◌, ◌<◌}
+use Prim.Native.Nat.{ℕ, zero, suc, ◌+◌, ◌<◌}
 use native.Mathlib.Numerals.{add-one}
 use native.Mathlib.Omega.{arith}
 use mathlib.Core.Path.{◌≡◌, refl, sym, ap, ◌∙◌}
 use mathlib.Core.Bool.{Bool, true, false}
 use mathlib.Core.List.{List, [], ◌∷◌, ◌++◌, map}
 use lib.Dec.{eqb}
-use lib.ListN.{length, get_or, length-map}
-use borrow.Author.Tests.{eqb-true, eqb-false}
+use lib.ListN.{length, get_or, length-map, get_or-eq_default}
+use borrow.Author.Tests.{eqb-true, eqb-false, ne_eqb}
+use native.Mathlib.Nat.{eq-or-lt_of_le}
+use mathlib.Core.Logic.{inl, inr}
+use Rattle.std.proofs.Common.{Result, Ok, Err, IfErr}
+use Rattle.std.specs.Result.{result_and, result_unwrap_or}
+use Rattle.bptc_block.specs.declared.Reading.{Reading}
+use Rattle.bptc_block.specs.Answers.{measured, block_read}
+use Rattle.refusals.specs.declared.Refusal.{Refusal}
+use Rattle.refusals.specs.Numbers.{number_of}
+use Rattle.refusals.proofs.Numbers.{some_number}
+use Rattle.figures.specs.declared.row.Declined.{Declined}
 use Rattle.lists.specs.Rows.{up_from}
 use Rattle.lists.specs.Tests.{pick}
 use Rattle.lists.proofs.Rows.{each-suc, length-up_from}
 use Rattle.lists.proofs.Tests.{pick_elim, pick-map}
-use Rattle.figures.specs.declared.row.Row.{Row}
-use Rattle.figures.specs.Row.{first_from, first_of, further, FirstRefusal, RowIsFirst}
+use Rattle.figures.specs.Row.{Row, row_in, refusal_in, first_from, first_of, further, FirstRefusal, RowIsFirst}
 
 -- one place later
 abbrev later : Row → Row
@@ -76,8 +85,64 @@ module _ (refusal : ℕ → ℕ) (n : ℕ) where
   unfolding first_of
   row_next = rw add-one (sym (ap (first_from 0) (each-suc refusal n) ∙ first_next 0 (map refusal (up_from 0 n)) (refusal n)))
 
-  -- the place in the answer for n blocks
-  pub row_within : (first_of (map refusal (up_from 0 n))).at ≤ n
-  row_within =
-      let e : length (map refusal (up_from 0 n)) ≡ n = simp (length-map, length-up_from) in
-      omega (arith, (row_is_first (map refusal (up_from 0 n))).within)
+-- one block more: a refusal stays, and where there is none the block decides
+pub stays : (n r : ℕ) (d : Declined) → row_in (n + 1) (Err d) ≡ further (row_in n (Err d)) r
+unfolding further
+stays n r d = rw (ne_eqb (number_of d.refusal) 0 (some_number d.refusal))
+
+pub first_declined : (n : ℕ) (r : Refusal) → row_in (n + 1) (Err (record { refusal = r; at = n })) ≡ further (row_in n (Ok tt)) (number_of r)
+unfolding further
+first_declined n r = rw (ne_eqb (number_of r) 0 (some_number r))
+
+pub first_passed : (n : ℕ) → row_in (n + 1) (Ok tt) ≡ further (row_in n (Ok tt)) 0
+unfolding further
+first_passed n = refl
+
+-- one block more that is not declined
+pub passed_on : (row : Result (Unit {0}) Declined) (n : ℕ) → row_in (n + 1) row ≡ further (row_in n row) 0
+passed_on (Ok done) n = first_passed n
+passed_on (Err d) n = stays n 0 d
+
+-- and one that is
+pub declined_on : (row : Result (Unit {0}) Declined) (n : ℕ) (r : Refusal) →
+    row_in (n + 1) (result_and row (Err (record { refusal = r; at = n }))) ≡ further (row_in n row) (number_of r)
+declined_on (Ok done) n r = first_declined n r
+declined_on (Err d) n r = stays n (number_of r) d
+
+-- the block that an answer declines is one of those measured or read
+pub row_inside : (refusals : List ℕ) (n : ℕ) (row : Result (Unit {0}) Declined) → length refusals ≡ n → row_in n row ≡ first_of refusals →
+    IfErr row (λ d. d.at < n)
+row_inside refusals n (Ok done) h e = tt
+row_inside refusals n (Err d) h e =
+    let f : FirstRefusal (first_of refusals) refusals = row_is_first refusals in
+    let at : d.at ≡ (first_of refusals).at = ap (λ (row : Row). row.at) e in
+    elim (eq-or-lt_of_le f.within) [
+      | inl behind ↦
+          let none : get_or refusals (first_of refusals).at 0 ≡ 0 = get_or-eq_default refusals 0 (omega (arith, behind)) in
+          absurd (some_number d.refusal (ap (λ (row : Row). row.refusal) e ∙ f.own ∙ none))
+      | inr less ↦ omega (arith, less)
+    ]
+
+-- the answer for the first n blocks
+module _ (refusal : ℕ → ℕ) (n : ℕ) where
+  -- is for as many refusals
+  each_length : length (map refusal (up_from 0 n)) ≡ n
+  each_length = simp (length-map, length-up_from)
+
+  -- and declines one of them
+  pub declined_inside : (row : Result (Unit {0}) Declined) → row_in n row ≡ first_of (map refusal (up_from 0 n)) → IfErr row (λ d. d.at < n)
+  declined_inside row e = row_inside (map refusal (up_from 0 n)) n row each_length e
+
+-- the number and the error of a measured block
+pub measured-refusal : (r : Result ℕ Refusal) → refusal_in r ≡ (measured r).refusal
+measured-refusal (Ok error) = refl
+measured-refusal (Err refusal) = refl
+
+pub measured-error : (r : Result ℕ Refusal) → result_unwrap_or r 0 ≡ (measured r).error
+measured-error (Ok error) = refl
+measured-error (Err refusal) = refl
+
+-- the number of a block that is read
+pub read-refusal : (r : Result Reading Refusal) → refusal_in r ≡ (block_read r).refusal
+read-refusal (Ok reading) = refl
+read-refusal (Err refusal) = refl

@@ -5,3 +5,4 @@ pub mod Rounding
 pub mod Brightness
 pub mod Carrying
 pub mod Keys
+pub mod Entries

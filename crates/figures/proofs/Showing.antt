@@ -9,7 +9,7 @@ use Rattle.lists.specs.Rows.{up_from}
 use Rattle.lists.specs.Parts.{part_at}
 use Rattle.lists.proofs.Rows.{each_same}
 use Rattle.lists.proofs.Parts.{Wide, part_length, joined_at, joined-next, joined_rest, joined-all}
-use Rattle.bptc_block.specs.declared.Measured.{Measured}
+use Rattle.bptc_block.specs.Answers.{Measured}
 use Rattle.bptc_block.specs.ReadCall.{read_of, read_into}
 use Rattle.bptc_block.specs.MeasureCall.{measure_of}
 use Rattle.bptc_block.proofs.ReadCall.{read_number, read_length}

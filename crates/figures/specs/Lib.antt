@@ -3,3 +3,4 @@ pub mod Figures
 pub mod Mean
 pub mod Shade
 pub mod Worst
+pub mod Entries

@@ -1,12 +1,29 @@
 -- The errors of a row of blocks, the pixels that it shows, and where the first of the blocks is declined.
-use Rattle.std.specs.Prelude.{ℕ, suc, ◌+◌, ◌*◌, ◌≤◌, ◌<◌, ◌≡◌, List, [], ◌∷◌, map, eqb, length, get_or, replicate}
+use Rattle.std.specs.Prelude.{ℕ, suc, ◌+◌, ◌*◌, ◌≤◌, ◌<◌, ◌≡◌, List, [], ◌∷◌, map, eqb, length, get_or, replicate, Result, Ok, Err}
 use Rattle.lists.specs.Rows.{up_from}
 use Rattle.lists.specs.Parts.{part_at, joined}
 use Rattle.lists.specs.Tests.{pick}
-use Rattle.bptc_block.specs.declared.Measured.{Measured}
+use Rattle.bptc_block.specs.Answers.{Measured}
 use Rattle.bptc_block.specs.ReadCall.{read_refusal, read_into}
 use Rattle.bptc_block.specs.MeasureCall.{measure_of}
-use Rattle.figures.specs.declared.row.Row.{Row}
+use Rattle.refusals.specs.declared.Refusal.{Refusal}
+use Rattle.refusals.specs.Numbers.{number_of}
+use Rattle.figures.specs.declared.row.Declined.{Declined}
+
+-- where the first block stands that is declined, and the number of its refusal; 0 and the number of blocks where none is
+pub record Row : Type 0 where
+  pub refusal : ℕ
+  pub at : ℕ
+
+-- what an answer for n blocks stands for
+abbrev pub row_in : ℕ → Result (Unit {0}) Declined → Row
+row_in n (Ok done) = record { refusal = 0; at = n }
+row_in n (Err d) = record { refusal = number_of d.refusal; at = d.at }
+
+-- the number of one block's answer, 0 where it is not declined
+abbrev pub refusal_in : {T : Type 0} → Result T Refusal → ℕ
+refusal_in (Ok given) = 0
+refusal_in (Err refusal) = number_of refusal
 
 -- block k, measured against its group of pixels
 unfoldable pub measured_at : List ℕ → List ℕ → ℕ → Measured

@@ -4,6 +4,7 @@
 ghost use Rattle.std.specs.Prelude.{◌≡◌, ◌+◌, ◌*◌, ◌<◌, ◌≤◌, length};
 ghost use Rattle.figures.specs.Figures.{none_yet, counted_of, counted_all};
 
+pub mod entry;
 pub mod mean;
 pub mod row;
 pub mod shade;
@@ -18,53 +19,47 @@ pub struct Figures {
     pub place: u64,
 }
 
-// The figures of no blocks.
-pub fn none() -> Figures
-    ensures { result ≡ none_yet }
-{
-    Figures {
-        blocks: 0,
-        total: 0,
-        worst: 0,
-        place: 0,
-    }
-}
-
-// The figures with one block more.
-pub fn counted(f: Figures, error: u32) -> Figures
-    requires { (f.total + error < 18446744073709551616) × (f.blocks < 18446744073709551615) }
-    ensures { result ≡ counted_of f error }
-{
-    let total = f.total + error as u64;
-    let blocks = f.blocks + 1;
-    if f.worst < error {
+impl Figures {
+    // The figures of no blocks.
+    pub fn none() -> Figures
+        ensures { result ≡ none_yet }
+    {
         Figures {
-            blocks,
-            total,
-            worst: error,
-            place: f.blocks,
-        }
-    } else {
-        Figures {
-            blocks,
-            total,
-            worst: f.worst,
-            place: f.place,
+            blocks: 0,
+            total: 0,
+            worst: 0,
+            place: 0,
         }
     }
-}
 
-// The figures with a row of blocks more, where the rows before it are so many and none has more than 4096 blocks.
-pub fn counted_row(f: Figures, errors: &[u32], row: usize) -> Figures
-    requires { (row < 4096) × (length errors.now ≤ 4096) × (f.total ≤ row * 17592186044416) × (f.blocks ≤ row * 4096) }
-    ensures all { result ≡ counted_all f errors.now }
-    ensures bound { (result.total ≤ (row + 1) * 17592186044416) × (result.blocks ≤ (row + 1) * 4096) }
-{
-    let mut sofar = f;
-    let mut i: usize = 0;
-    while i < errors.len() {
-        sofar = counted(sofar, errors[i]);
-        i += 1;
+    // The figures with one block more.
+    pub fn counted(self, error: u32) -> Figures
+        requires { (self.total + error < 18446744073709551616) × (self.blocks < 18446744073709551615) }
+        ensures { result ≡ counted_of self error }
+    {
+        let place = if self.worst < error {
+            self.blocks
+        } else {
+            self.place
+        };
+        Figures {
+            blocks: self.blocks + 1,
+            total: self.total + u64::from(error),
+            worst: self.worst.max(error),
+            place,
+        }
     }
-    sofar
+
+    // The figures with a row of blocks more, where the rows before it are so many and none has more than 4096 blocks.
+    pub fn counted_row(self, errors: &[u32], row: usize) -> Figures
+        requires { (row < 4096) × (length errors.now ≤ 4096) × (self.total ≤ row * 17592186044416) × (self.blocks ≤ row * 4096) }
+        ensures all { result ≡ counted_all self errors.now }
+        ensures bound { (result.total ≤ (row + 1) * 17592186044416) × (result.blocks ≤ (row + 1) * 4096) }
+    {
+        let mut figures = self;
+        for error in errors {
+            figures = figures.counted(*error);
+        }
+        figures
+    }
 }

@@ -9,9 +9,9 @@ pub fn shade(error: u32, worst: u32) -> u8
     if worst == 0 {
         return 0;
     }
-    let most = worst as u64;
-    let steps = (error as u64 * 255 + (most - 1)) / most;
-    if steps < 255 { steps as u8 } else { 255 }
+    let most = u64::from(worst);
+    let steps = (u64::from(error) * 255 + (most - 1)) / most;
+    steps.min(255) as u8
 }
 
 // A row of an error map: three equal bytes for each block.
@@ -19,9 +19,7 @@ pub fn shades(errors: &[u32], worst: u32, out: &mut [u8])
     requires { (length out.old ≡ 3 * length errors.now) × (length errors.now ≤ 4096) }
     ensures { out.new ≡ shades_of errors.now worst }
 {
-    let mut j: usize = 0;
-    while j < out.len() {
-        out[j] = shade(errors[j / 3], worst);
-        j += 1;
+    for (j, byte) in out.iter_mut().enumerate() {
+        *byte = shade(errors[j / 3], worst);
     }
 }

@@ -3,23 +3,18 @@ ghost use Rattle.std.specs.Prelude.{◌≡◌, ◌+◌, ◌≤◌, length};
 ghost use Rattle.bptc.specs.Colour.{colours_of};
 ghost use Rattle.closest.specs.Pick.{raised_all};
 
-use palette::colour::wide;
-
 // The greatest distance of sixteen pixels.
 pub(crate) const GREATEST: u32 = 16 * 3 * 255 * 255;
 
 // The squares of what the bytes lack to 255, in sum: the greatest distance less what the pixels are raised by.
-// The bound is the part's length: with a number the loop would be unrolled before it is made one of vectors.
 pub(crate) fn lacking(px: &[u8]) -> u32
     requires { length px.now ≡ 48 }
     ensures { (result + raised_all (colours_of px.now) ≡ 3121200) × (result ≤ 3121200) }
 {
-    let mut sum: u32 = 0;
-    let mut i: usize = 0;
-    while i < px.len() {
-        let y = 255 - wide(px[i]);
+    let mut sum = 0;
+    for x in px {
+        let y = u32::from(255 - *x);
         sum += y * y;
-        i += 1;
     }
     sum
 }

@@ -2,8 +2,8 @@
 // Pixels stand row by row, three bytes each: red, green, blue. A group has sixteen, so 48 bytes.
 #![tactic(auto)]
 
-ghost use Rattle.std.specs.Prelude.{◌≡◌, ◌+◌, ◌*◌, ◌<◌, ◌≤◌, length};
-ghost use Rattle.groups.specs.Cutting.{groups_across, rows_in, inside, source_of, place_of, groups_of, picture_of};
+ghost use Rattle.std.specs.Prelude.{ℕ, ◌≡◌, ◌+◌, ◌*◌, ◌<◌, ◌≤◌, length};
+ghost use Rattle.groups.specs.Cutting.{groups_across, rows_in, source_of, place_of, gather, groups_of, picture_of};
 
 // The greatest side of a picture.
 pub const SIDE: usize = 16384;
@@ -13,7 +13,7 @@ pub fn across(side: usize) -> usize
     requires { side ≤ 16384 }
     ensures { (result ≡ groups_across side) × (result ≤ 4096) }
 {
-    (side + 3) / 4
+    side.div_ceil(4)
 }
 
 // How many rows of pixels a row of groups has: four, or those that are left.
@@ -21,8 +21,7 @@ pub fn rows_in(height: usize, row: usize) -> usize
     requires { row * 4 < height }
     ensures { (result ≡ rows_in height row) × (1 ≤ result) × (result ≤ 4) }
 {
-    let left = height - row * 4;
-    if left < 4 { left } else { 4 }
+    (height - row * 4).min(4)
 }
 
 // How many bytes a picture has, whole or a band of it.
@@ -41,64 +40,65 @@ pub fn number_at(row: usize, columns: usize, column: usize) -> usize
     row * columns + column
 }
 
-// A place along a side, or the last one where it is beyond the edge.
-fn kept_inside(side: usize, place: usize) -> usize
-    requires { 0 < side }
-    ensures { (result ≡ inside side place) × (result < side) }
+// Writes to each place of a list what stands at the place of another that a function gives.
+fn gather<F: Fn(usize) -> usize>(place: F, from: &[u8], to: &mut [u8])
+    ghost places: { ℕ → ℕ }
+    requires callable { (i : ℕ) → i < length to.old → F.pre place i }
+    requires inside { (i j : ℕ) → i < length to.old → F.post place i j → (j ≡ places i) × (j < length from.now) }
+    ensures { to.new ≡ gather places (length to.old) from.now }
 {
-    if place < side { place } else { side - 1 }
-}
-
-// Where byte g of a band's groups stands in the band.
-fn source(g: usize, width: usize, rows: usize) -> usize
-    requires wide { (0 < width) × (width ≤ 16384) }
-    requires high { (0 < rows) × (rows ≤ 4) }
-    requires in_groups { g < 48 * groups_across width }
-    ensures { (result ≡ source_of width rows g) × (result < width * rows * 3) }
-{
-    let x = kept_inside(width, 4 * (g / 48) + g / 3 % 4);
-    let y = kept_inside(rows, g / 12 % 4);
-    (y * width + x) * 3 + g % 3
-}
-
-// The groups of a band: beyond its edges the last column and the last row are repeated.
-pub fn cut(band: &[u8], width: usize, rows: usize, groups: &mut [u8])
-    requires wide { (0 < width) × (width ≤ 16384) }
-    requires high { (0 < rows) × (rows ≤ 4) }
-    requires whole { length band.now ≡ width * rows * 3 }
-    requires room { length groups.old ≡ 48 * groups_across width }
-    ensures { groups.new ≡ groups_of width rows band.now }
-{
-    let mut g: usize = 0;
-    while g < groups.len() {
-        groups[g] = band[source(g, width, rows)];
-        g += 1;
+    for (i, byte) in to.iter_mut().enumerate() {
+        *byte = from[place(i)];
     }
 }
 
-// Where byte j of a band stands among its groups' bytes.
-fn place(j: usize, width: usize, rows: usize) -> usize
-    requires wide { (0 < width) × (width ≤ 16384) }
-    requires high { rows ≤ 4 }
-    requires in_band { j < width * rows * 3 }
-    ensures { (result ≡ place_of width j) × (result < 48 * groups_across width) }
-{
-    let x = j / 3 % width;
-    let y = j / 3 / width;
-    48 * (x / 4) + (y * 4 + x % 4) * 3 + j % 3
+// A band of a picture's rows: at most four, which one row of groups has.
+#[derive(Clone, Copy)]
+pub struct Band {
+    pub width: usize,
+    pub rows: usize,
+    ghost wide: { (0 < width) × (width ≤ 16384) },
+    ghost high: { (0 < rows) × (rows ≤ 4) },
 }
 
-// The band that groups stand for.
-pub fn put_back(groups: &[u8], width: usize, rows: usize, band: &mut [u8])
-    requires wide { (0 < width) × (width ≤ 16384) }
-    requires high { (0 < rows) × (rows ≤ 4) }
-    requires whole { length band.old ≡ width * rows * 3 }
-    requires room { length groups.now ≡ 48 * groups_across width }
-    ensures { band.new ≡ picture_of width rows groups.now }
-{
-    let mut j: usize = 0;
-    while j < band.len() {
-        band[j] = groups[place(j, width, rows)];
-        j += 1;
+impl Band {
+    // Where byte g of the band's groups stands in the band: beyond its edges the last column and the last row are repeated.
+    fn source(self, g: usize) -> usize
+        requires { g < 48 * groups_across self.width }
+        ensures { (result ≡ source_of self.width self.rows g) × (result < self.width * self.rows * 3) }
+    {
+        let column = 4 * (g / 48) + g / 3 % 4;
+        let row = g / 12 % 4;
+        let x = column.min(self.width - 1);
+        let y = row.min(self.rows - 1);
+        (y * self.width + x) * 3 + g % 3
+    }
+
+    // The groups of the band.
+    pub fn cut(self, pixels: &[u8], groups: &mut [u8])
+        requires whole { length pixels.now ≡ self.width * self.rows * 3 }
+        requires room { length groups.old ≡ 48 * groups_across self.width }
+        ensures { groups.new ≡ groups_of self.width self.rows pixels.now }
+    {
+        gather(|g| self.source(g), pixels, groups);
+    }
+
+    // Where byte j of the band stands among its groups' bytes.
+    fn place(self, j: usize) -> usize
+        requires { j < self.width * self.rows * 3 }
+        ensures { (result ≡ place_of self.width j) × (result < 48 * groups_across self.width) }
+    {
+        let x = j / 3 % self.width;
+        let y = j / 3 / self.width;
+        48 * (x / 4) + (y * 4 + x % 4) * 3 + j % 3
+    }
+
+    // The pixels of the band that groups stand for.
+    pub fn put_back(self, groups: &[u8], pixels: &mut [u8])
+        requires whole { length pixels.old ≡ self.width * self.rows * 3 }
+        requires room { length groups.now ≡ 48 * groups_across self.width }
+        ensures { pixels.new ≡ picture_of self.width self.rows groups.now }
+    {
+        gather(|j| self.place(j), groups, pixels);
     }
 }

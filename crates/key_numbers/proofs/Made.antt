@@ -3,7 +3,7 @@ use Prim.Native.Nat.{ℕ, ◌+◌, ◌-◌, ◌*◌, ◌≤◌, ◌<◌}
 use native.Mathlib.Omega.{arith}
 use mathlib.Core.Path.{◌≡◌, refl, ap, ap₂, ◌∙◌}
 use mathlib.Core.Bool.{Bool, true, false}
-use mathlib.Core.List.{◌++◌}
+use mathlib.Core.List.{List, ◌++◌}
 use lib.Dec.{ltb}
 use lib.ListN.{get_or, length, length-append, length-map}
 use borrow.Author.Tests.{ltb-true, ltb-false}
@@ -11,7 +11,7 @@ use Rattle.lists.proofs.Rows.{length-up_from, get_or-each, each_front, each_past
 use Rattle.bptc.specs.declared.Rgb.{Rgb}
 use Rattle.bptc.specs.Colour.{Below, dot}
 use Rattle.keys.specs.Keys.{own_of, step_of, sum_key, key_at, Steps}
-use Rattle.key_numbers.specs.Numbers.{numbers_of}
+use Rattle.key_numbers.specs.Numbers.{numbers_of, steps_of}
 use Rattle.keys.proofs.KeySums.{norm-byte}
 
 -- the numbers of n colours, each with its index, at a scale
@@ -88,3 +88,10 @@ numbers_same scale n f g index h =
     ap₂ ◌++◌ (each_same 0 _ _ n (λ k l. ap (λ (c : Rgb). step_of scale c.r) (h k l)))
     (ap₂ ◌++◌ (each_same 0 _ _ n (λ k l. ap (λ (c : Rgb). step_of scale c.g) (h k l)))
     (ap₂ ◌++◌ (each_same 0 _ _ n (λ k l. ap (λ (c : Rgb). step_of scale c.b) (h k l))) (each_same 0 _ _ n (λ k l. ap (λ (c : Rgb). own_of scale c (index k)) (h k l)))))
+
+-- and of the same indices
+pub numbers_indexed : (scale n : ℕ) (colour : ℕ → Rgb) (f g : ℕ → ℕ) → ((k : ℕ) → k < n → f k ≡ g k) → numbers_of scale n colour f ≡ numbers_of scale n colour g
+unfolding numbers_of
+numbers_indexed scale n colour f g h =
+    ap (λ (own : List ℕ). steps_of scale n (λ (k : ℕ). (colour k).r) ++ (steps_of scale n (λ (k : ℕ). (colour k).g) ++ (steps_of scale n (λ (k : ℕ). (colour k).b) ++ own)))
+    (each_same 0 _ _ n (λ k l. ap (own_of scale (colour k)) (h k l)))

@@ -4,7 +4,7 @@ ghost use Rattle.lists.specs.Rows.{up_from};
 ghost use Rattle.bptc.specs.Pixels.{pixel_of};
 ghost use Rattle.key_numbers.specs.Numbers.{column_words, joined_rows, flat_columns, numbers_of};
 
-use crate::{alone, step};
+use crate::numbers;
 use bptc::Colour;
 
 // The first four colours of four rows, at index * 4 + row.
@@ -12,13 +12,11 @@ fn interleaved(a: [Colour; 8], b: [Colour; 8], c: [Colour; 8], d: [Colour; 8]) -
     ensures { result ≡ map (column_words a b c d) (up_from 0 16) }
 {
     let mut out = [0u32; 16];
-    let mut j: usize = 0;
-    while j < 4 {
+    for j in 0..4 {
         out[j * 4] = a[j].0;
         out[j * 4 + 1] = b[j].0;
         out[j * 4 + 2] = c[j].0;
         out[j * 4 + 3] = d[j].0;
-        j += 1;
     }
     out
 }
@@ -28,30 +26,11 @@ fn joined(first: &[u32; 16], second: &[u32; 16]) -> [u32; 32]
     ensures { result ≡ map (joined_rows first.now second.now) (up_from 0 32) }
 {
     let mut out = [0u32; 32];
-    let mut k: usize = 0;
-    while k < 16 {
+    for k in 0..16 {
         out[k] = first[k];
         out[k + 16] = second[k];
-        k += 1;
     }
     out
-}
-
-// The numbers of thirty-two colours, the index of each its place in a row of four columns.
-fn numbers4(words: &[u32; 32]) -> [u32; 128]
-    ensures { result ≡ numbers_of 8 32 (λ k. pixel_of (get_or words.now k 0)) (λ k. k / 4 % 4) }
-{
-    let mut numbers = [0u32; 128];
-    let mut k: usize = 0;
-    while k < 32 {
-        let c = words[k];
-        numbers[k] = step(c % 256);
-        numbers[k + 32] = step(c / 256 % 256);
-        numbers[k + 64] = step(c / 65536 % 256);
-        numbers[k + 96] = alone(c, (k / 4 % 4) as u32);
-        k += 1;
-    }
-    numbers
 }
 
 // The numbers of four pairs of rows, each with four colours, a pair in each column.
@@ -65,6 +44,5 @@ pub fn numbers_of4(
 {
     let first = interleaved(a[0], b[0], c[0], d[0]);
     let second = interleaved(a[1], b[1], c[1], d[1]);
-    let words = joined(&first, &second);
-    numbers4(&words)
+    numbers(&joined(&first, &second), 4, 4)
 }

@@ -2,9 +2,10 @@
 // key of each colour, and then the rest of each key.
 #![tactic(auto)]
 
-ghost use Rattle.std.specs.Prelude.{◌≡◌, ◌<◌};
+ghost use Rattle.std.specs.Prelude.{◌≡◌, ◌*◌, ◌/◌, ◌%◌, ◌<◌, ◌≤◌, get_or};
 ghost use Rattle.bptc.specs.Pixels.{pixel_of};
 ghost use Rattle.keys.specs.Keys.{step_of, own_of};
+ghost use Rattle.key_numbers.specs.Numbers.{numbers_of};
 
 pub mod columns;
 pub mod rows;
@@ -26,4 +27,28 @@ fn alone(c: u32, index: u32) -> u32
     let g = c / 256 % 256;
     let b = c / 65536 % 256;
     (r * r + g * g + b * b) * 8 + index
+}
+
+// The numbers of N colours, which stand in so many columns and in rows of `width`: the index of each is its place in its column.
+// Requires room for four numbers of each, and at most eight indices.
+#[inline(always)]
+fn numbers<const N: usize, const ALL: usize>(
+    words: &[u32; N],
+    columns: usize,
+    width: usize,
+) -> [u32; ALL]
+    requires whole { ALL ≡ N * 4 }
+    requires columns { 0 < columns }
+    requires width { (0 < width) × (width ≤ 8) }
+    ensures { result ≡ numbers_of 8 N (λ k. pixel_of (get_or words.now k 0)) (λ k. k / columns % width) }
+{
+    let mut numbers = [0u32; ALL];
+    for k in 0..N {
+        let c = words[k];
+        numbers[k] = step(c % 256);
+        numbers[k + N] = step(c / 256 % 256);
+        numbers[k + N * 2] = step(c / 65536 % 256);
+        numbers[k + N * 3] = alone(c, (k / columns % width) as u32);
+    }
+    numbers
 }

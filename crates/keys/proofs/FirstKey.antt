@@ -1,6 +1,6 @@
 -- The least key has the lowest index of least distance, at any scale above the indices.
-use Prim.Native.Nat.{ℕ, zero, suc, ◌+◌, ◌-◌, ◌*◌, ◌≤◌, ◌<◌}
-use native.Mathlib.Nat.{mul-le-mul_right, suc-mul, le_refl, le_trans}
+use Prim.Native.Nat.{ℕ, zero, suc, ◌+◌, ◌-◌, ◌*◌, ◌≤◌, ◌<◌, min}
+use native.Mathlib.Nat.{mul-le-mul_right, suc-mul, le_refl, le_trans, min-le_left, min-le_right, le-min}
 use native.Mathlib.Numerals.{one-add}
 use native.Mathlib.Omega.{arith}
 use mathlib.Core.Path.{◌≡◌, refl, ap, ap₂, ◌∙◌}
@@ -13,44 +13,19 @@ use Rattle.lists.specs.Rows.{up_from}
 use Rattle.lists.specs.Least.{first_least}
 use Rattle.lists.proofs.Rows.{up_from-suc, up_from-below}
 use Rattle.lists.proofs.Least.{least_append, least-keeps}
-use Rattle.keys.specs.Keys.{lesser_of, least_of4}
-
--- the lesser of two is no greater than the first
-pub lesser-left : (a b : ℕ) → lesser_of a b ≤ a
-lesser-left a b = go (ltb b a) refl
-  where
-    go : (t : Bool) → ltb b a ≡ t → pick t b a ≤ a
-    go true e = omega (arith, ltb-true b a e)
-    go false e = le_refl a
-
--- nor than the second
-pub lesser_right : (a b : ℕ) → lesser_of a b ≤ b
-lesser_right a b = go (ltb b a) refl
-  where
-    go : (t : Bool) → ltb b a ≡ t → pick t b a ≤ b
-    go true e = le_refl b
-    go false e = ltb-false b a e
-
--- and no less than what is no greater than both
-pub lesser_most : (m a b : ℕ) → m ≤ a → m ≤ b → m ≤ lesser_of a b
-lesser_most m a b h k = go (ltb b a)
-  where
-    go : (t : Bool) → m ≤ pick t b a
-    go true = k
-    go false = h
+use Rattle.keys.specs.Keys.{least_of4}
 
 -- the least of four is no greater than any
 pub least4_le : (f : ℕ → ℕ) (c : ℕ) → c < 4 → least_of4 f ≤ f c
-least4_le f zero h = omega (arith, lesser-left (lesser_of (f 0) (f 1)) (lesser_of (f 2) (f 3)), lesser-left (f 0) (f 1))
-least4_le f (suc zero) h = omega (arith, lesser-left (lesser_of (f 0) (f 1)) (lesser_of (f 2) (f 3)), lesser_right (f 0) (f 1))
-least4_le f (suc (suc zero)) h = omega (arith, lesser_right (lesser_of (f 0) (f 1)) (lesser_of (f 2) (f 3)), lesser-left (f 2) (f 3))
-least4_le f (suc (suc (suc zero))) h = omega (arith, lesser_right (lesser_of (f 0) (f 1)) (lesser_of (f 2) (f 3)), lesser_right (f 2) (f 3))
+least4_le f zero h = omega arith
+least4_le f (suc zero) h = omega arith
+least4_le f (suc (suc zero)) h = omega arith
+least4_le f (suc (suc (suc zero))) h = omega arith
 least4_le f (suc (suc (suc (suc c)))) h = absurd (omega arith)
 
 -- and no less than what is no greater than all
 pub least4_most : (m : ℕ) (f : ℕ → ℕ) → ((c : ℕ) → c < 4 → m ≤ f c) → m ≤ least_of4 f
-least4_most m f h =
-    lesser_most m _ _ (lesser_most m _ _ (h 0 (omega arith)) (h 1 (omega arith))) (lesser_most m _ _ (h 2 (omega arith)) (h 3 (omega arith)))
+least4_most m f h = omega (arith, h 0 (omega arith), h 1 (omega arith), h 2 (omega arith), h 3 (omega arith))
 
 -- the least of a function's values up to the last: none is less, and nothing greater is below all of them
 pub record Least (f : ℕ → ℕ) (last t : ℕ) : Type 0 where
@@ -60,25 +35,25 @@ pub record Least (f : ℕ → ℕ) (last t : ℕ) : Type 0 where
 -- of the same numbers
 pub least4-same : (f g : ℕ → ℕ) → ((c : ℕ) → c < 4 → f c ≡ g c) → least_of4 f ≡ least_of4 g
 least4-same f g h =
-    ap₂ lesser_of (ap₂ lesser_of (h 0 (omega arith)) (h 1 (omega arith))) (ap₂ lesser_of (h 2 (omega arith)) (h 3 (omega arith)))
+    ap₂ min (ap₂ min (h 0 (omega arith)) (h 1 (omega arith))) (ap₂ min (h 2 (omega arith)) (h 3 (omega arith)))
 
 -- the least of four
 pub least_of_4 : (f : ℕ → ℕ) → Least f 3 (least_of4 f)
 least_of_4 f = record { below = λ j h. least4_le f j (omega arith); most = λ m h. least4_most m f (λ c l. h c (omega arith)) }
 
 -- the least of eight, in four columns of two
-pub least_of_8 : (f : ℕ → ℕ) → Least f 7 (least_of4 (λ (c : ℕ). lesser_of (f c) (f (c + 4))))
+pub least_of_8 : (f : ℕ → ℕ) → Least f 7 (least_of4 (λ (c : ℕ). min (f c) (f (c + 4))))
 least_of_8 f =
     record {
       below = λ j h. go j h (ltb j 4) refl;
-      most = λ m h. least4_most m _ (λ c l. lesser_most m (f c) (f (c + 4)) (h c (omega arith)) (h (c + 4) (omega arith)));
+      most = λ m h. least4_most m _ (λ c l. le-min (h c (omega arith)) (h (c + 4) (omega arith)));
     }
   where
-    go : (j : ℕ) → j ≤ 7 → (t : Bool) → ltb j 4 ≡ t → least_of4 (λ (c : ℕ). lesser_of (f c) (f (c + 4))) ≤ f j
-    go j h true e = le_trans (least4_le (λ (c : ℕ). lesser_of (f c) (f (c + 4))) j (ltb-true j 4 e)) (lesser-left (f j) (f (j + 4)))
+    go : (j : ℕ) → j ≤ 7 → (t : Bool) → ltb j 4 ≡ t → least_of4 (λ (c : ℕ). min (f c) (f (c + 4))) ≤ f j
+    go j h true e = le_trans (least4_le (λ (c : ℕ). min (f c) (f (c + 4))) j (ltb-true j 4 e)) (min-le_left (f j) (f (j + 4)))
     go j h false e =
         let k : j - 4 + 4 ≡ j = omega (arith, ltb-false j 4 e) in
-        rw (← k) (le_trans (least4_le (λ (c : ℕ). lesser_of (f c) (f (c + 4))) (j - 4) (omega arith)) (lesser_right (f (j - 4)) (f (j - 4 + 4))))
+        rw (← k) (le_trans (least4_le (λ (c : ℕ). min (f c) (f (c + 4))) (j - 4) (omega arith)) (min-le_right (f (j - 4)) (f (j - 4 + 4))))
 
 module _ (d : ℕ → ℕ) (raise scale : ℕ) where
   -- the key of index j

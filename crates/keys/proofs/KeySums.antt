@@ -100,9 +100,3 @@ small_each f n top some h i = go (ltb i n) refl
     go false e =
         let l : length (map f (up_from 0 n)) ≡ n = simp (length-map, length-up_from) in
         rw (get_or-eq_default (map f (up_from 0 n)) 0 {n = i} (omega (arith, ltb-false i n e))) some
-
--- the keys of a pixel with m colours from a place on may be compared
-pub keys_small : (n : ℕ) (numbers : List ℕ) (p : Rgb) (at m : ℕ) → Steps n numbers → Below 256 p → at + m ≤ n →
-    (j : ℕ) → get_or (map (λ (j : ℕ). key_at n numbers p (at + j)) (up_from 0 m)) j 0 < 2 ^ 31
-keys_small n numbers p at m s h l =
-    small_each (λ (j : ℕ). key_at n numbers p (at + j)) m (2 ^ 31) (omega arith) (λ i k. omega (arith, key_small n numbers p (at + i) s h (omega arith)))

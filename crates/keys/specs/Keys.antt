@@ -1,7 +1,6 @@
 -- The keys that the search compares: a raised distance and an index in one, as a sum.
-use Rattle.std.specs.Prelude.{ℕ, ◌+◌, ◌-◌, ◌*◌, ◌^◌, ◌≤◌, ◌<◌, ◌≡◌, List, ltb, get_or, length}
+use Rattle.std.specs.Prelude.{ℕ, ◌+◌, ◌-◌, ◌*◌, ◌^◌, ◌≤◌, ◌<◌, ◌≡◌, List, min, get_or, length}
 use Rattle.bptc.specs.declared.Rgb.{Rgb}
-use Rattle.lists.specs.Tests.{pick}
 use Rattle.lists.specs.Digits.{bit}
 use Rattle.bptc.specs.Colour.{black, each, colours_of, dot, norm}
 
@@ -21,13 +20,9 @@ sum_key scale p c j = own_of scale c j + dot p (each (step_of scale) c)
 unfoldable pub raised : Rgb → ℕ
 raised p = p.r * (510 - p.r) + p.g * (510 - p.g) + p.b * (510 - p.b)
 
--- the lesser of two numbers
-abbrev pub lesser_of : ℕ → ℕ → ℕ
-lesser_of a b = pick (ltb b a) b a
-
 -- the least of four numbers, taken in pairs
 abbrev pub least_of4 : (ℕ → ℕ) → ℕ
-least_of4 f = lesser_of (lesser_of (f 0) (f 1)) (lesser_of (f 2) (f 3))
+least_of4 f = min (min (f 0) (f 1)) (min (f 2) (f 3))
 
 -- the key of a pixel by the numbers of n colours, those of the colour at place k: red, green and blue, and what it adds by itself
 unfoldable pub key_at : ℕ → List ℕ → Rgb → ℕ → ℕ

@@ -1,19 +1,10 @@
 // A key of a pixel and a colour: the pixel's raised distance and the colour's index in one number, so that the least key has the lowest
 // index of least distance.
-ghost use Rattle.std.specs.Prelude.{◌≡◌, ◌+◌, ◌*◌, ◌^◌, ◌≤◌, ◌<◌};
-ghost use Rattle.keys.specs.Keys.{key_at, lesser_of, Steps};
+ghost use Rattle.std.specs.Prelude.{◌≡◌, ◌+◌, ◌*◌, ◌^◌, ◌≤◌, ◌<◌, map};
+ghost use Rattle.lists.specs.Rows.{up_from};
+ghost use Rattle.keys.specs.Keys.{key_at, Steps};
 
 use bptc::Rgb;
-use palette::colour::wide;
-
-// The lesser of two keys.
-pub fn lesser(a: u32, b: u32) -> u32
-    requires first { a < 2 ^ 31 }
-    requires second { b < 2 ^ 31 }
-    ensures { (result ≡ lesser_of a b) × (result < 2 ^ 31) }
-{
-    if (b as i32) < (a as i32) { b } else { a }
-}
 
 // The key of a pixel, by its channels and the numbers of a colour. Their range is shown beside each product, so that the products are
 // those of 16 bits.
@@ -34,12 +25,27 @@ pub fn key_at(p: Rgb, at: usize, colours: usize, numbers: &[u32]) -> u32
     ensures { (result ≡ key_at colours numbers.now p at) × (result < 2 ^ 23) }
 {
     key(
-        wide(p.r),
-        wide(p.g),
-        wide(p.b),
+        u32::from(p.r),
+        u32::from(p.g),
+        u32::from(p.b),
         numbers[at],
         numbers[at + colours],
         numbers[at + colours * 2],
         numbers[at + colours * 3],
     )
+}
+
+// The keys of a pixel with the N colours from a place on. Requires the same.
+#[inline(always)]
+pub fn keys<const N: usize>(p: Rgb, at: usize, colours: usize, numbers: &[u32]) -> [u32; N]
+    requires inside { at + N ≤ colours }
+    requires few { colours ≤ 32 }
+    requires steps { Steps colours numbers.now }
+    ensures { result ≡ map (λ j. key_at colours numbers.now p (at + j)) (up_from 0 N) }
+{
+    let mut keys = [0u32; N];
+    for j in 0..N {
+        keys[j] = key_at(p, at + j, colours, numbers);
+    }
+    keys
 }

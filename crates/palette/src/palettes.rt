@@ -1,22 +1,17 @@
 // The palettes of a block, from its stored endpoints and p-bits.
 ghost use Rattle.std.specs.Prelude.{◌≡◌, ℕ, ◌^◌, ◌<◌, ◌≤◌, map, get_or};
 ghost use Rattle.lists.specs.Rows.{up_from};
-ghost use Rattle.bptc.specs.Mode.{mode1, mode3, mode_numbered};
 ghost use Rattle.bptc.specs.Colour.{black, Below};
 ghost use Rattle.bptc.specs.Shown.{Stored, end_shown_by};
 ghost use Rattle.bptc.specs.Palette.{blended_rows, coloured, palettes};
 
+use crate::Mode;
 use crate::colour::{interpolate_rgb, p_promote};
-use crate::{Mode1, Mode3};
 use bptc::{Colour, Rgb};
 
-// The weights at indices of two bits, in parts of 256.
-pub const WEIGHTS_2: [u16; 8] = [0, 84, 172, 256, 0, 0, 0, 0];
-
-// At indices of three bits.
-pub const WEIGHTS_3: [u16; 8] = [0, 36, 72, 108, 148, 184, 220, 256];
-
 // The colour that endpoint k shows, by the widths of a mode.
+#[inline(always)]
+#[tactic(auto, unfolding(bptc::specs::Shown::end_shown_by))]
 fn end_shown(bits: u32, p_bits: u32, ends: [Rgb; 4], p: u8, k: usize) -> Rgb
     requires wide { 3 ≤ bits }
     requires narrow { bits ≤ 7 }
@@ -32,6 +27,7 @@ fn end_shown(bits: u32, p_bits: u32, ends: [Rgb; 4], p: u8, k: usize) -> Rgb
 
 // The palette between e[0] and e[1] and that between e[2] and e[3]: as many colours as the mode has, then black.
 // Requires no more colours than a row has, and weights in parts of 256.
+#[inline(always)]
 pub fn rows(weights: &[u16; 8], colours: usize, e: [Rgb; 4]) -> [[Colour; 8]; 2]
     requires few { colours ≤ 8 }
     requires light { (k : ℕ) → k < colours → get_or weights.now k 0 ≤ 256 }
@@ -43,16 +39,15 @@ pub fn rows(weights: &[u16; 8], colours: usize, e: [Rgb; 4]) -> [[Colour; 8]; 2]
     let e3 = e[3];
     let mut first = [Colour(0); 8];
     let mut second = [Colour(0); 8];
-    let mut k: usize = 0;
-    while k < colours {
+    for k in 0..colours {
         first[k] = interpolate_rgb(weights[k], e0, e1);
         second[k] = interpolate_rgb(weights[k], e2, e3);
-        k += 1;
     }
     [first, second]
 }
 
 // The colours that the four endpoints show, by the widths of a mode. Requires widths that a mode can have, and channels within them.
+#[inline(always)]
 pub fn ends_shown(bits: u32, p_bits: u32, ends: [Rgb; 4], p: u8) -> [Rgb; 4]
     requires wide { 3 ≤ bits }
     requires narrow { bits ≤ 7 }
@@ -68,35 +63,15 @@ pub fn ends_shown(bits: u32, p_bits: u32, ends: [Rgb; 4], p: u8) -> [Rgb; 4]
     ]
 }
 
-impl Mode1 {
-    // Both palettes, a row of eight colours for each subset. Requires that the endpoints are within the mode's width.
-    pub fn palettes(ends: [Rgb; 4], p: u8) -> [[Colour; 8]; 2]
-        requires { Stored mode1 ends }
-        ensures { result ≡ coloured (palettes mode1 ends p) }
-    {
-        let shown = ends_shown(Self::CHANNEL_BITS, Self::P_BITS, ends, p);
-        rows(&WEIGHTS_3, Self::COLOURS, shown)
-    }
-}
-
-impl Mode3 {
-    // Both palettes, four colours and black in each row. Requires that the endpoints are within the mode's width.
-    pub fn palettes(ends: [Rgb; 4], p: u8) -> [[Colour; 8]; 2]
-        requires { Stored mode3 ends }
-        ensures { result ≡ coloured (palettes mode3 ends p) }
-    {
-        let shown = ends_shown(Self::CHANNEL_BITS, Self::P_BITS, ends, p);
-        rows(&WEIGHTS_2, Self::COLOURS, shown)
-    }
-}
-
-// Both palettes by the mode's number, 1 and else 3. Requires that the endpoints are within the mode's width.
-pub fn palettes(mode: u8, ends: [Rgb; 4], p: u8) -> [[Colour; 8]; 2]
-    requires { Stored (mode_numbered mode) ends }
-    ensures { result ≡ coloured (palettes (mode_numbered mode) ends p) }
+// Both palettes of a mode, a row of eight colours for each subset, black past the largest index.
+// Requires that the endpoints are within the mode's width.
+#[inline(always)]
+pub fn palettes<M: Mode>(ends: [Rgb; 4], p: u8) -> [[Colour; 8]; 2]
+    requires { Stored M.mode ends }
+    ensures { result ≡ coloured (palettes M.mode ends p) }
 {
-    match mode {
-        1 => Mode1::palettes(ends, p),
-        _ => Mode3::palettes(ends, p),
-    }
+    // in a local, as the compiler does not see through a reference that the constant's entries are the same in every turn
+    let weights = M::WEIGHTS;
+    let shown = ends_shown(M::CHANNEL_BITS, M::P_BITS, ends, p);
+    rows(&weights, M::colours(), shown)
 }

@@ -1,39 +1,41 @@
 // Prints what the crates palette and finishing give for worked examples; the gate holds it to the file `stdout`.
 #![tactic(auto)]
 
-ghost use Rattle.std.specs.Prelude.{◌≡◌, ◌<◌, ◌≤◌, length};
+ghost use Rattle.std.specs.Prelude.{◌≡◌, ◌<◌, length};
 ghost use Rattle.bptc.specs.Mode.{mode1, mode3};
 ghost use Rattle.bptc.specs.Shown.{Stored};
 
 use bptc_block::PBits;
 use finishing::{Indices, nearest};
-use palette::palettes::{WEIGHTS_2, WEIGHTS_3};
-use palette::{Colour, Mode1, Mode3, Rgb};
-use std::io;
+use palette::colour::p_promote;
+use palette::palettes::rows;
+use palette::{Colour, Mode, Mode1, Mode3, Rgb};
+use std::{fmt, io};
 
-// Writes a text.
-fn say(rt: &impl Print, text: &[u8]) -> io::Result<()> {
-    rt.write_all(text)
+// The reds of colours, each with a space after it.
+#[derive(Drop)]
+struct Reds<'a>(&'a [Colour]);
+
+impl fmt::Display for Reds<'_> {
+    fn fmt<W: fmt::Write>(&self, f: &mut fmt::Formatter<W>) -> fmt::Result {
+        for c in self.0 {
+            write!(f, "{} ", c.0 % 256)?;
+        }
+        Ok(())
+    }
 }
 
-// Writes a space.
-fn space(rt: &impl Print) -> io::Result<()> {
-    rt.write_all(b" ")
-}
+// A number for each pixel, with nothing between them.
+#[derive(Clone, Copy)]
+struct Digits([u8; 16]);
 
-// Ends a line.
-fn line(rt: &impl Print) -> io::Result<()> {
-    rt.write_all(b"\n")
-}
-
-// Writes a number.
-fn put(rt: &impl Print, n: u32) -> io::Result<()> {
-    rt.print(n)
-}
-
-// Writes an index.
-fn put_index(rt: &impl Print, n: u8) -> io::Result<()> {
-    put(rt, n as u32)
+impl fmt::Display for Digits {
+    fn fmt<W: fmt::Write>(&self, f: &mut fmt::Formatter<W>) -> fmt::Result {
+        for n in &self.0 {
+            write!(f, "{n}")?;
+        }
+        Ok(())
+    }
 }
 
 // A colour with three equal channels.
@@ -48,69 +50,36 @@ fn put_shown(rt: &impl Print, e: u8, p: u8) -> io::Result<()>
     requires channel { e < 64 }
     requires bit { p < 2 }
 {
-    let c = palette::colour::p_promote(Mode1::CHANNEL_BITS, grey(e), p);
-    say(rt, b"shown ")?;
-    put(rt, c.r as u32)?;
-    line(rt)
-}
-
-// The reds of the first colours of a row.
-fn put_row(rt: &impl Print, row: [Colour; 8], colours: usize) -> io::Result<()>
-    requires { colours ≤ 8 }
-{
-    let mut k: usize = 0;
-    while k < colours {
-        let c = row[k];
-        put(rt, c.0 % 256)?;
-        space(rt)?;
-        k += 1;
-    }
-    line(rt)
+    println!(rt; "shown {}", p_promote(Mode1::CHANNEL_BITS, grey(e), p).r)
 }
 
 // P10: both palettes between black and white.
 fn put_palettes(rt: &impl Print) -> io::Result<()> {
     let a = grey(0);
     let b = grey(255);
-    let four = palette::palettes::rows(&WEIGHTS_2, Mode3::COLOURS, [a, b, a, b]);
-    let eight = palette::palettes::rows(&WEIGHTS_3, Mode1::COLOURS, [a, b, a, b]);
-    say(rt, b"palette ")?;
-    put_row(rt, four[0], Mode3::COLOURS)?;
-    say(rt, b"palette ")?;
-    put_row(rt, eight[1], Mode1::COLOURS)
+    let four = rows(&Mode3::WEIGHTS, Mode3::colours(), [a, b, a, b])[0];
+    let eight = rows(&Mode1::WEIGHTS, Mode1::colours(), [a, b, a, b])[1];
+    println!(rt; "palette {}", Reds(&four[..Mode3::colours()]))?;
+    println!(rt; "palette {}", Reds(&eight[..Mode1::colours()]))
 }
 
-// The first pixel of subset 1, and 16 where there is none.
-fn first_of_second(partition: usize) -> usize
-    requires { partition < 64 }
-    ensures { result ≤ 16 }
-{
-    let mut i: usize = 0;
-    while i < 16 {
-        if partitions::subset(partition, i) == 1 {
-            return i;
-        }
-        i += 1;
-    }
-    i
-}
-
-// The subset of each pixel, then the size of subset 1, its first pixel and its anchor.
+// A partition: the subset of each pixel, then the size of subset 1, its first pixel, 16 where there is none, and its anchor.
 fn put_partition(rt: &impl Print, partition: usize) -> io::Result<()>
     requires { partition < 64 }
 {
-    let mut i: usize = 0;
-    while i < 16 {
-        put(rt, partitions::subset(partition, i) as u32)?;
-        i += 1;
+    let mut subsets = [0u8; 16];
+    for i in 0..16 {
+        subsets[i] = partitions::subset(partition, i);
     }
-    space(rt)?;
-    put(rt, partitions::size(partition))?;
-    space(rt)?;
-    put(rt, first_of_second(partition) as u32)?;
-    space(rt)?;
-    put(rt, partitions::anchor(partition) as u32)?;
-    line(rt)
+    let first = subsets.iter().position(|&s| s == 1).unwrap_or(16);
+    println!(rt;
+        "partition {} {} {} {} {}",
+        partition,
+        Digits(subsets),
+        partitions::size(partition),
+        first,
+        partitions::anchor(partition)
+    )
 }
 
 // Sixteen pixels of many colours.
@@ -118,10 +87,8 @@ fn pixels() -> [u8; 48]
     ensures { length result ≡ 48 }
 {
     let mut out = [0u8; 48];
-    let mut i: usize = 0;
-    while i < 48 {
-        out[i] = ((i * 53 + i / 3 * 29) % 256) as u8;
-        i += 1;
+    for (i, byte) in out.iter_mut().enumerate() {
+        *byte = ((i * 53 + i / 3 * 29) % 256) as u8;
     }
     out
 }
@@ -168,22 +135,23 @@ fn ends3() -> [Rgb; 4]
     [a, b, c, d]
 }
 
-// The indices, of so many numbers each, the p-bits and the error of both subsets.
-fn put_found(rt: &impl Print, found: Indices, numbers: u64) -> io::Result<()>
+// A mode's indices, of so many numbers each, the p-bits and the error of both subsets.
+fn put_found(rt: &impl Print, mode: u8, found: Indices, numbers: u64) -> io::Result<()>
     requires { 0 < numbers }
 {
     let mut left = found.indexes;
-    let mut i: usize = 0;
-    while i < 16 {
-        put_index(rt, (left % numbers % 256) as u8)?;
-        left = left / numbers;
-        i += 1;
+    let mut indices = [0u8; 16];
+    for index in indices.iter_mut() {
+        *index = (left % numbers % 256) as u8;
+        left /= numbers;
     }
-    space(rt)?;
-    put_index(rt, found.p)?;
-    space(rt)?;
-    put(rt, found.error)?;
-    line(rt)
+    println!(rt;
+        "mode {} {} {} {}",
+        mode,
+        Digits(indices),
+        found.p,
+        found.error
+    )
 }
 
 // The search in both modes over a partition, at p-bits that are fixed or free.
@@ -191,27 +159,8 @@ fn put_searches(rt: &impl Print, partition: usize, p1: PBits, p3: PBits) -> io::
     requires { partition < 64 }
 {
     let bytes = pixels();
-    say(rt, b"mode 1 ")?;
-    put_found(rt, nearest(1, ends1(), p1, &bytes, partition), 8)?;
-    say(rt, b"mode 3 ")?;
-    put_found(rt, nearest(3, ends3(), p3, &bytes, partition), 4)
-}
-
-// A partition, and the searches over it.
-fn put_all(rt: &impl Print, partition: usize) -> io::Result<()>
-    requires { partition < 64 }
-{
-    say(rt, b"partition ")?;
-    put(rt, partition as u32)?;
-    space(rt)?;
-    put_partition(rt, partition)?;
-    put_searches(
-        rt,
-        partition,
-        PBits::Fixed((partition % 4) as u8),
-        PBits::Fixed((partition % 16) as u8),
-    )?;
-    put_searches(rt, partition, PBits::Free, PBits::Free)
+    put_found(rt, 1, nearest::<Mode1>(ends1(), p1, &bytes, partition), 8)?;
+    put_found(rt, 3, nearest::<Mode3>(ends3(), p3, &bytes, partition), 4)
 }
 
 // The examples, one after the other.
@@ -220,10 +169,12 @@ fn main(rt: HostRuntime) -> io::Result<()> {
     put_shown(&rt, 63, 0)?;
     put_shown(&rt, 0, 1)?;
     put_palettes(&rt)?;
-    let mut partition: usize = 0;
-    while partition < 64 {
-        put_all(&rt, partition)?;
-        partition += 1;
+    for partition in 0..64 {
+        put_partition(&rt, partition)?;
+        let p1 = PBits::Fixed((partition % 4) as u8);
+        let p3 = PBits::Fixed((partition % 16) as u8);
+        put_searches(&rt, partition, p1, p3)?;
+        put_searches(&rt, partition, PBits::Free, PBits::Free)?;
     }
     Ok(())
 }

@@ -254,6 +254,8 @@ pub fn entry2(partition: usize) -> u64
 }
 
 // The indices of three bits: all ones at the pixels of subset 1, and its anchor above them. Requires a partition of the table.
+// A table beside `entry2` and not one over the width: no entry is shared, and to spread the mask at every call is slower (packing 188
+// to 227 instructions).
 #[tactic(auto, unfolding(bptc::specs::Partition::masks, bptc::specs::Partition::anchors, bptc::specs::Partition::mask_of, bptc::specs::Partition::subset_of, bptc::specs::Partition::anchor_of, bptc::specs::Partition::ones_of, bptc::specs::Partition::entry_of, lists::specs::Bits::join))]
 pub fn entry3(partition: usize) -> u64
     requires { partition < 64 }

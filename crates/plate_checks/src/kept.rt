@@ -1,25 +1,16 @@
 // Files that are compared and written.
-ghost use Rattle.io.specs.Counts.{IsPrefixLen};
-
-use check::same;
 use files::read_full;
 use std::fs;
 use std::fs::File;
 use std::io::Print;
 
-// Writes a text.
-pub(crate) fn say(rt: &impl Print, text: &[u8]) {
-    let _ = rt.write_all(text);
-}
-
-// Reads a file, of at most as many bytes as the buffer has, and answers how many there are.
-pub(crate) fn read(rt: &HostRuntime, path: &str, bytes: &mut [u8]) -> usize
-    ensures { IsPrefixLen result bytes.new }
-{
-    match File::open(rt, path) {
-        Ok(mut file) => read_full(&mut file, bytes),
-        Err(_) => 0,
-    }
+// The bytes of a file, of which the buffer must have room for all; none where it cannot be read.
+pub(crate) fn read<'b>(rt: &HostRuntime, path: &str, buffer: &'b mut [u8]) -> &'b [u8] {
+    let Ok(mut file) = File::open(rt, path) else {
+        return &[];
+    };
+    let n = read_full(&mut file, buffer);
+    &buffer[..n]
 }
 
 // Makes a file of these bytes.
@@ -29,16 +20,14 @@ pub(crate) fn write(rt: &HostRuntime, path: &str, bytes: &[u8]) {
 
 // Says whether two files have the same bytes.
 pub(crate) fn say_same(rt: &HostRuntime, path: &str, stored: &str) {
-    let mut ours = [0u8; 65536];
-    let mut theirs = [0u8; 65536];
-    let n = read(rt, path, &mut ours);
-    let m = read(rt, stored, &mut theirs);
-    say(rt, path.as_bytes());
-    if n > 0 && same(&ours[..n], &theirs[..m]) {
-        say(rt, b" is ");
+    let mut first = [0u8; 65536];
+    let mut second = [0u8; 65536];
+    let ours = read(rt, path, &mut first);
+    let theirs = read(rt, stored, &mut second);
+    let verdict = if !ours.is_empty() && ours == theirs {
+        "is"
     } else {
-        say(rt, b" differs from ");
-    }
-    say(rt, stored.as_bytes());
-    say(rt, b"\n");
+        "differs from"
+    };
+    let _ = println!(rt; "{path} {verdict} {stored}");
 }

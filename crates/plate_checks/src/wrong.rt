@@ -1,29 +1,17 @@
 // Wrong input. Each gives one line, and kept.bc7 is as it was.
-ghost use Rattle.std.specs.Prelude.{◌≤◌};
-
 use crate::kept::{read, write};
 use commands::run;
 
 // The bytes of the longest file that is cut.
 const LONGEST: usize = 256;
 
-// Runs a command on the first bytes of a file.
-fn run_cut(rt: &HostRuntime, bytes: &[u8; LONGEST], n: usize, line: &[u8])
-    requires { n ≤ 256 }
-{
-    let all: &[u8] = bytes;
-    write(rt, "cut", &all[0..n]);
-    run(rt, line);
-}
-
 // Runs a command on a file cut at every length.
 fn cut_at_every_length(rt: &HostRuntime, path: &str, line: &[u8]) {
-    let mut bytes = [0u8; LONGEST];
-    let n = read(rt, path, &mut bytes);
-    let mut k: usize = 0;
-    while k < n && k < LONGEST {
-        run_cut(rt, &bytes, k, line);
-        k += 1;
+    let mut buffer = [0u8; LONGEST];
+    let bytes = read(rt, path, &mut buffer);
+    for n in 0..bytes.len() {
+        write(rt, "cut", &bytes[..n]);
+        run(rt, line);
     }
 }
 
@@ -42,25 +30,27 @@ pub(crate) fn cut_files(rt: &HostRuntime) {
     );
 }
 
-// Bakes a file with a wrong header.
-fn bake_wrong(rt: &HostRuntime, bytes: &[u8]) {
-    write(rt, "wrong", bytes);
-    run(rt, b"bake\x00wrong\x00kept.bc7\x00");
-}
-
 // Wrong headers, and a photograph that is longer than it says.
+const HEADERS: [&[u8]; 11] = [
+    b"P5 1 1 255 abc",
+    b"P6 x 1 255 abc",
+    b"P6 1 # 1 255 abc",
+    b"P6 1 1 ",
+    b"P6 0 1 255 abc",
+    b"P6 1 16385 255 abc",
+    b"P6 99999999999 1 255 abc",
+    b"P6 1 1 65535 abc",
+    b"P6 1 1 255abc",
+    b"P6 1 1 255 abcd",
+    b"P6 2 1 255 abc",
+];
+
+// Bakes each file with a wrong header.
 pub(crate) fn headers(rt: &HostRuntime) {
-    bake_wrong(rt, b"P5 1 1 255 abc");
-    bake_wrong(rt, b"P6 x 1 255 abc");
-    bake_wrong(rt, b"P6 1 # 1 255 abc");
-    bake_wrong(rt, b"P6 1 1 ");
-    bake_wrong(rt, b"P6 0 1 255 abc");
-    bake_wrong(rt, b"P6 1 16385 255 abc");
-    bake_wrong(rt, b"P6 99999999999 1 255 abc");
-    bake_wrong(rt, b"P6 1 1 65535 abc");
-    bake_wrong(rt, b"P6 1 1 255abc");
-    bake_wrong(rt, b"P6 1 1 255 abcd");
-    bake_wrong(rt, b"P6 2 1 255 abc");
+    for header in HEADERS {
+        write(rt, "wrong", header);
+        run(rt, b"bake\x00wrong\x00kept.bc7\x00");
+    }
 }
 
 // Plates with blocks of other modes, and of another picture.
@@ -87,22 +77,26 @@ pub(crate) fn flags(rt: &HostRuntime) {
 }
 
 // Wrong arguments, files that are not there, and an output that is an input.
+const LINES: [&[u8]; 14] = [
+    b"",
+    b"paint\x00",
+    b"help\x00me\x00",
+    b"bake\x00small.ppm\x00",
+    b"bake\x00small.ppm\x00\x00",
+    b"bake\x00none.ppm\x00kept.bc7\x00",
+    b"bake\x00.\x00kept.bc7\x00",
+    b"bake\x00small.ppm\x00./small.ppm\x00",
+    b"measure\x00small.ppm\x00small.bc7\x00--best\x00",
+    b"measure\x00small.ppm\x00small.bc7\x00--worst\x000\x00",
+    b"measure\x00small.ppm\x00small.bc7\x00--worst\x001001\x00",
+    b"show\x00small.bc7\x005\x00\x00out.ppm\x00",
+    b"show\x00small.bc7\x00x\x003\x00out.ppm\x00",
+    b"show\x00small.bc7\x005\x00-3\x00out.ppm\x00",
+];
+
+// Runs each of these lines.
 pub(crate) fn arguments(rt: &HostRuntime) {
-    run(rt, b"");
-    run(rt, b"paint\x00");
-    run(rt, b"help\x00me\x00");
-    run(rt, b"bake\x00small.ppm\x00");
-    run(rt, b"bake\x00small.ppm\x00\x00");
-    run(rt, b"bake\x00none.ppm\x00kept.bc7\x00");
-    run(rt, b"bake\x00.\x00kept.bc7\x00");
-    run(rt, b"bake\x00small.ppm\x00./small.ppm\x00");
-    run(rt, b"measure\x00small.ppm\x00small.bc7\x00--best\x00");
-    run(rt, b"measure\x00small.ppm\x00small.bc7\x00--worst\x000\x00");
-    run(
-        rt,
-        b"measure\x00small.ppm\x00small.bc7\x00--worst\x001001\x00",
-    );
-    run(rt, b"show\x00small.bc7\x005\x00\x00out.ppm\x00");
-    run(rt, b"show\x00small.bc7\x00x\x003\x00out.ppm\x00");
-    run(rt, b"show\x00small.bc7\x005\x00-3\x00out.ppm\x00");
+    for line in LINES {
+        run(rt, line);
+    }
 }

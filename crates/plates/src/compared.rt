@@ -1,134 +1,64 @@
 // A photograph and its plate, opened together and measured a row of blocks at a time.
-ghost use Rattle.std.specs.Prelude.{IfSome, ◌≡◌, ◌+◌, ◌*◌, ◌<◌, ◌≤◌, length};
-ghost use Rattle.plates.specs.Sizes.{Sized, Within};
+ghost use Rattle.std.specs.Prelude.{◌≡◌, ◌+◌, ◌*◌, ◌<◌, ◌≤◌, OnOk};
 
-use crate::photo::{BAND, Photo, open_photo, read_groups};
-use crate::plate::{Plate, ROW, fits, open_plate, read_blocks};
-use crate::report::{Place, place_at, say_block};
-use crate::said::{fail_of, say};
-use figures::row::{Row, measure_row};
-use figures::{Figures, counted_row, none};
-use groups::across;
-use std::io::Print;
-
-// The blocks of the longest row.
-pub const COLUMNS: usize = 4096;
+use crate::buffers::Buffers;
+use crate::failure::Failure;
+use crate::photo::Photo;
+use crate::plate::Plate;
+use crate::report::Place;
+use crate::tally::Tally;
+use figures::row::measure_row;
 
 // A photograph and the plate of its blocks, both open for reading.
 #[derive(Drop)]
-pub(crate) struct Pair {
-    pub photo: Photo,
-    pub plate: Plate,
+pub(crate) struct Pair<'a> {
+    pub photo: Photo<'a>,
+    pub plate: Plate<'a>,
 }
 
-// The figures so far, and whether all went well.
-#[derive(Clone, Copy)]
-pub struct Counted {
-    pub ok: bool,
-    pub figures: Figures,
-}
-
-// Opens a photograph and its plate, or says what is wrong with them.
-pub(crate) fn open_pair(rt: &HostRuntime, photo_path: &[u8], plate_path: &[u8]) -> Option<Pair>
-    ensures { IfSome result (λ p. (p.photo.pixels ≤ 4096) × Sized p.photo.width p.photo.height) }
-{
-    let photo = open_photo(rt, photo_path)?;
-    let plate = open_plate(rt, plate_path)?;
-    if !fits(rt, plate_path, &plate, photo.width, photo.height) {
-        return None;
+impl<'a> Pair<'a> {
+    // Opens a photograph and its plate.
+    pub(crate) fn open(
+        rt: &HostRuntime,
+        photo_path: &'a [u8],
+        plate_path: &'a [u8],
+    ) -> Result<Pair<'a>, Failure<'a>> {
+        let photo = Photo::open(rt, photo_path)?;
+        let plate = Plate::open(rt, plate_path)?;
+        plate.check_size(photo.size)?;
+        Ok(Pair { photo, plate })
     }
-    Some(Pair { photo, plate })
-}
 
-// The line of a block that is not read.
-pub(crate) fn fail_block(rt: &impl Print, path: &[u8], refusal: u8, place: Place) {
-    fail_of(rt, path);
-    say_block(rt, place);
-    if refusal == 8 {
-        say(
-            rt,
-            b" is reserved, its first byte is 0; expected mode 1 or 3\n",
-        );
-    } else {
-        say(rt, b" has another mode; expected mode 1 or 3\n");
+    // Goes to the beginning of both again.
+    pub(crate) fn rewind(&self) -> Result<(), Failure<'a>> {
+        self.photo.rewind()?;
+        self.plate.rewind()
     }
-}
 
-// No figures yet.
-pub fn nothing_counted(ok: bool) -> Counted
-    ensures { Within result.figures 0 }
-{
-    Counted {
-        ok,
-        figures: none(),
-    }
-}
-
-// Measures a row of blocks and counts their errors.
-fn count_row(
-    rt: &impl Print,
-    path: &[u8],
-    row: usize,
-    f: Figures,
-    n: usize,
-    groups: &[u8],
-    blocks: &[u8],
-    errors: &mut [u32; COLUMNS],
-) -> Counted
-    requires parts { (length groups.now ≡ 48 * n) × (length blocks.now ≡ 16 * n) }
-    requires few { (n ≤ 4096) × (row < 4096) }
-    requires before { Within f row }
-    ensures { Within result.figures (row + 1) }
-{
-    let all: &mut [u32] = errors;
-    let measured = measure_row(groups, blocks, &mut all[0..n]);
-    if measured.refusal != 0 {
-        fail_block(rt, path, measured.refusal, place_at(row, n, measured.at));
-        return Counted {
-            ok: false,
-            figures: f,
-        };
-    }
-    let found = &all[..];
-    Counted {
-        ok: true,
-        figures: counted_row(f, &found[0..n], row),
-    }
-}
-
-// Reads a row of the photograph and of the plate, measures its blocks and counts their errors.
-pub(crate) fn measure_next(
-    rt: &impl Print,
-    photo_path: &[u8],
-    plate_path: &[u8],
-    pair: &Pair,
-    row: usize,
-    f: Figures,
-    band: &mut [u8; BAND],
-    groups: &mut [u8; BAND],
-    blocks: &mut [u8; ROW],
-    errors: &mut [u32; COLUMNS],
-) -> Counted
-    requires size { Sized pair.now.photo.width pair.now.photo.height × (row * 4 < pair.now.photo.height) }
-    requires before { Within f row }
-    ensures { Within result.figures (row + 1) }
-{
-    let photo = &pair.photo;
-    let plate = &pair.plate;
-    let n = across(photo.width);
-    let b = n * 16;
-    let g = n * 48;
-    let pixels: &mut [u8] = groups;
-    let plates: &mut [u8] = blocks;
-    if read_groups(rt, photo_path, photo, row, band, &mut pixels[0..g])
-        && read_blocks(rt, plate_path, &plate.file, &mut plates[0..b])
+    // Reads a row of the photograph and of the plate, measures its blocks and counts their errors.
+    pub(crate) fn measure_row(
+        &self,
+        row: usize,
+        buffers: &mut Buffers,
+        tally: &mut Tally,
+    ) -> Result<(), Failure<'a>>
+        requires { (row * 4 < self.now.photo.size.height) × (tally.old.rows ≡ row) }
+        ensures { OnOk result (tally.new.rows ≡ row + 1) }
     {
-        let cut = &pixels[..];
-        let read = &plates[..];
-        return count_row(rt, plate_path, row, f, n, &cut[0..g], &read[0..b], errors);
-    }
-    Counted {
-        ok: false,
-        figures: f,
+        let columns = self.photo.size.columns();
+        let groups = &mut buffers.groups[..];
+        let groups = &mut groups[..columns * 48];
+        let blocks = &mut buffers.blocks[..];
+        let blocks = &mut blocks[..columns * 16];
+        let errors = &mut buffers.errors[..];
+        let errors = &mut errors[..columns];
+        self.photo.read_groups(row, &mut buffers.band, groups)?;
+        self.plate.read_blocks(blocks)?;
+        if let Err(declined) = measure_row(groups, blocks, errors) {
+            let place = Place::at(row, columns, declined.at);
+            return Err(self.plate.declined(declined.refusal, place));
+        }
+        tally.add_row(errors);
+        Ok(())
     }
 }

@@ -1,126 +1,108 @@
 // `bc7 measure`: how far each block of a plate lies from its photograph.
-ghost use Rattle.std.specs.Prelude.{◌≡◌, ◌+◌, ◌*◌, ◌<◌, ◌≤◌, length};
-ghost use Rattle.plates.specs.Sizes.{Sized, Within};
+ghost use Rattle.std.specs.Prelude.{◌≡◌, ◌<◌, ◌≤◌};
+ghost use Rattle.groups.specs.Cutting.{groups_across};
 
-use crate::compared::{COLUMNS, Counted, Pair, measure_next, nothing_counted, open_pair};
-use crate::photo::BAND;
-use crate::plate::ROW;
-use crate::progress::{progress, progress_ended};
-use crate::report::say_figures;
-use crate::said::say;
+use crate::buffers::Buffers;
+use crate::compared::Pair;
+use crate::failure::Failure;
+use crate::progress::{RowWork, each_row};
+use crate::report::Report;
+use crate::said::{say, say_done};
 use crate::table::{insert_row, put_row, put_worst};
-use groups::across;
-use std::io::Print;
+use crate::tally::Tally;
+use figures::entry::Entry;
 
-// The most blocks that --worst shows.
+// The most of the worst blocks that are shown.
 pub const MOST: usize = 1000;
 
-// What is shown before the figures: a line for each block, or for so many of the worst.
-#[derive(Clone, Copy)]
-pub struct Shown {
-    pub table: bool,
-    pub worst: usize,
+// What is shown before the figures: a line for each block, for so many of the worst and at most MOST, or none.
+#[derive(Clone, Copy, Debug, PartialEq, Eq)]
+pub enum Shown {
+    Table,
+    Worst(usize),
+    Total,
 }
 
-// Shows a row of blocks that is measured, or keeps the worst of them.
-fn show_row(
-    rt: &impl Print,
-    measured: bool,
+// A plate that is measured: the buffers, the figures so far, and the worst blocks.
+#[derive(Drop)]
+struct Measuring<'a, 'b> {
+    pair: &'b Pair<'a>,
     table: bool,
-    row: usize,
-    n: usize,
-    blocks: &[u8; ROW],
-    errors: &[u32; COLUMNS],
-    keys: &mut [u64],
-)
-    requires { (n ≤ 4096) × (row < 4096) }
-{
-    let b = n * 16;
-    let plates: &[u8] = blocks;
-    let all: &[u32] = errors;
-    if measured && table {
-        put_row(rt, row, &plates[0..b], &all[0..n]);
+    worst: &'b mut [Option<Entry>],
+    buffers: &'b mut Buffers,
+    tally: Tally,
+}
+
+impl<'a> RowWork for Measuring<'a, '_> {
+    type Error = Failure<'a>;
+
+    ghost rows_in = { λ s. groups_across s.pair.now.photo.size.height };
+
+    ghost ready = { λ s row. s.tally.rows ≡ row };
+
+    fn rows(&self) -> usize {
+        self.pair.photo.size.rows()
     }
-    if measured && keys.len() > 0 {
-        insert_row(row, &plates[0..b], &all[0..n], keys);
+
+    fn name(&self) -> Option<&'static str> {
+        if self.table { None } else { Some("measuring") }
+    }
+
+    fn work_on(&mut self, rt: &HostRuntime, row: usize) -> Result<(), Failure<'a>> {
+        self.pair.measure_row(row, self.buffers, &mut self.tally)?;
+        let columns = self.pair.photo.size.columns();
+        let buffers = &*self.buffers;
+        let blocks = &buffers.blocks[..columns * 16];
+        let errors = &buffers.errors[..columns];
+        if self.table {
+            put_row(rt, row, blocks, errors);
+        }
+        insert_row(row, blocks, errors, self.worst);
+        Ok(())
     }
 }
 
 // Measures a plate row by row.
-pub(crate) fn measure_rows(
+pub(crate) fn measure_rows<'a>(
     rt: &HostRuntime,
-    photo_path: &[u8],
-    plate_path: &[u8],
-    pair: &Pair,
+    pair: &Pair<'a>,
     table: bool,
-    keys: &mut [u64],
-) -> Counted
-    requires { Sized pair.now.photo.width pair.now.photo.height }
-    ensures { Within result.figures 4096 }
-{
-    let photo = &pair.photo;
-    let n = across(photo.width);
-    let rows = across(photo.height);
-    let mut band = [0u8; BAND];
-    let mut groups = [0u8; BAND];
-    let mut blocks = [0u8; ROW];
-    let mut errors = [0u32; COLUMNS];
-    let mut state = nothing_counted(true);
-    let mut row: usize = 0;
-    while row < rows && state.ok {
-        if !table {
-            progress(rt, b"measuring", row, rows);
-        }
-        state = measure_next(
-            rt,
-            photo_path,
-            plate_path,
-            pair,
-            row,
-            state.figures,
-            &mut band,
-            &mut groups,
-            &mut blocks,
-            &mut errors,
-        );
-        show_row(rt, state.ok, table, row, n, &blocks, &errors, keys);
-        row += 1;
-    }
-    if !table {
-        progress_ended(rt, rows);
-    }
-    state
+    worst: &mut [Option<Entry>],
+) -> Result<Tally, Failure<'a>> {
+    let mut buffers = Buffers::new();
+    let mut work = Measuring {
+        pair,
+        table,
+        worst,
+        buffers: &mut buffers,
+        tally: Tally::new(),
+    };
+    each_row(rt, &mut work)?;
+    Ok(work.tally)
 }
 
 // Measures a plate against its photograph and says the figures.
-pub fn measure(rt: &HostRuntime, photo_path: &[u8], plate_path: &[u8], shown: Shown)
-    requires { shown.worst ≤ 1000 }
-{
-    let Some(pair) = open_pair(rt, photo_path, plate_path) else {
-        return;
-    };
-    if shown.table || shown.worst > 0 {
+pub fn measure<'a>(
+    rt: &HostRuntime,
+    photo_path: &'a [u8],
+    plate_path: &'a [u8],
+    shown: Shown,
+) -> Result<(), Failure<'a>> {
+    let pair = Pair::open(rt, photo_path, plate_path)?;
+    if shown != Shown::Total {
         say(rt, b"column row mode partition error\n");
     }
-    let worst = shown.worst;
-    let mut own = [0u64; MOST];
-    let keys: &mut [u64] = &mut own;
-    let state = measure_rows(
-        rt,
-        photo_path,
-        plate_path,
-        &pair,
-        shown.table,
-        &mut keys[0..worst],
-    );
-    if state.ok {
-        let photo = &pair.photo;
-        let columns = across(photo.width);
-        let kept = &keys[..];
-        put_worst(rt, &kept[0..worst], columns);
-        say_figures(rt, state.figures, columns as u64);
-        say(rt, b"done: ");
-        say(rt, plate_path);
-        say(rt, b" is measured\n");
-    }
+    // Room for the most: the program takes no heap.
+    let mut all = [None; MOST];
+    let worst = match shown {
+        Shown::Worst(n) => &mut all[..n.min(MOST)],
+        Shown::Table | Shown::Total => &mut all[..0],
+    };
+    let tally = measure_rows(rt, &pair, shown == Shown::Table, worst)?;
+    let columns = pair.photo.size.columns();
+    put_worst(rt, worst, columns);
+    let report = Report::new(&tally, columns);
+    let _ = println!(rt; "{report}");
+    say_done(rt, plate_path, "measured");
+    Ok(())
 }

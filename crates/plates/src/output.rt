@@ -1,175 +1,213 @@
 // An output: written to a new file beside it, and renamed at the end, so that the old one is whole until then.
-ghost use Rattle.io.specs.Counts.{IsPrefixLen};
-ghost use Rattle.plates.specs.Sizes.{Sized};
-
-use crate::inputs::{is_regular, open_path, path_text};
-use crate::said::{fail, fail_by, fail_of, say, say_reason};
-use files::{Status, status_of};
+use crate::failure::Failure;
+use crate::inputs::{check_regular, open_path, path_text};
+use crate::reason::Reason;
+use crate::size::Size;
+use files::{FileId, status_of};
+use std::fmt::Write as _;
 use std::fs::{File, OpenOptions};
-use std::io::{ErrorKind, Print, Write};
-use std::{fs, io, process};
-use text::line::{put, put_decimal};
-use text::ppm::put_header;
+use std::io::{ErrorKind, Write};
+use std::{fmt, fs, io, process};
+use text::line::Line;
+use text::ppm::NewHeader;
 
 // The greatest length of an output's path, which leaves room for the new file's ending.
 const LONGEST: usize = 4000;
 
-// Puts the new file's name into a buffer: the output's, this process's number and `.new`.
-fn new_name(rt: &HostRuntime, path: &[u8], name: &mut [u8; 4096]) -> usize
-    ensures { IsPrefixLen result name.new }
-{
-    let process = process::id(rt.process());
-    let mut at = put(path, name, 0);
-    at = put(b".", name, at);
-    at = put_decimal(process as u64, name, at);
-    put(b".new", name, at)
+// The name of the new file: the output's, this process's number and `.new`.
+#[derive(Clone, Copy)]
+pub struct NewName<'a> {
+    path: &'a str,
+    process: u32,
 }
 
-// Whether two open files are known to be one file.
-fn same_file(a: Status, b: Status) -> bool {
-    a.ok && b.ok && a.device == b.device && a.inode == b.inode
-}
-
-// Whether a file is this input, where there is one.
-fn is_input(old: Status, input: Option<&File>) -> bool {
-    match input {
-        Some(file) => same_file(old, status_of(file)),
-        None => false,
+impl fmt::Display for NewName<'_> {
+    fn fmt<W: fmt::Write>(&self, f: &mut fmt::Formatter<W>) -> fmt::Result {
+        write!(f, "{}.{}.new", self.path, self.process)
     }
 }
 
-// Whether the file under an output's name may be replaced: a regular one, and none of the two inputs.
-fn old_replaceable(
-    rt: &impl Print,
-    path: &[u8],
-    old: Status,
-    first: &File,
-    second: Option<&File>,
-) -> bool {
-    if !is_regular(rt, path, old) {
-        return false;
+impl NewName<'_> {
+    // The name in fixed memory, which has room for it behind a path of the greatest length.
+    fn line(self) -> Line<4096> {
+        let mut line = Line::new();
+        let _ = write!(line, "{self}");
+        line
     }
-    if same_file(old, status_of(first)) || is_input(old, second) {
-        fail(
-            rt,
-            path,
-            b"is an input too; expected another name for the output",
-        );
-        return false;
+
+    // Makes the file, which is not there yet.
+    fn create(self, rt: &HostRuntime) -> io::Result<File> {
+        let line = self.line();
+        OpenOptions::new()
+            .write(true)
+            .create_new(true)
+            .open(rt, path_text(line.as_bytes())?)
     }
-    true
+
+    // Renames the file to the output's name.
+    fn rename(self, rt: &HostRuntime) -> io::Result<()> {
+        let line = self.line();
+        fs::rename(rt, path_text(line.as_bytes())?, self.path)
+    }
+
+    // Removes the file.
+    fn remove(self, rt: &HostRuntime) -> io::Result<()> {
+        let line = self.line();
+        fs::remove_file(rt, path_text(line.as_bytes())?)
+    }
 }
 
-// Whether an output may get its name: there is no file of it, or one that may be replaced.
-fn replaceable(rt: &HostRuntime, path: &[u8], first: &File, second: Option<&File>) -> bool {
+// Why an output cannot be written.
+#[derive(Clone, Copy)]
+pub enum OutputMistake<'a> {
+    LongName,
+    AlsoInput,
+    NotReplaced(io::Error),
+    NotMade(NewName<'a>, io::Error),
+    NotWritten(io::Error),
+}
+
+impl fmt::Display for OutputMistake<'_> {
+    fn fmt<W: fmt::Write>(&self, f: &mut fmt::Formatter<W>) -> fmt::Result {
+        match *self {
+            OutputMistake::LongName => f.write_str(
+                "is too long a name; expected at most 4000 bytes",
+            ),
+            OutputMistake::AlsoInput => f.write_str(
+                "is an input too; expected another name for the output",
+            ),
+            OutputMistake::NotReplaced(error) => write!(f, "cannot be replaced: {}", Reason(error)),
+            OutputMistake::NotMade(name, error) => write!(
+                f,
+                "cannot be written, since {name} cannot be made: {}",
+                Reason(error)
+            ),
+            OutputMistake::NotWritten(error) => write!(f, "cannot be written: {}", Reason(error)),
+        }
+    }
+}
+
+// Refuses to replace an open file that is no regular one, or one of the inputs.
+fn check_old<'a>(path: &'a [u8], old: &File, inputs: &[Option<FileId>]) -> Result<(), Failure<'a>> {
+    let status = status_of(old);
+    check_regular(status).map_err(|mistake| Failure::new(path, mistake))?;
+    let id = status.map(|known| known.id);
+    if id.is_some() && inputs.contains(&id) {
+        return Err(Failure::new(path, OutputMistake::AlsoInput));
+    }
+    Ok(())
+}
+
+// The path of an output as text, where there is no file of it, or one that may be replaced.
+fn replaceable<'a>(
+    rt: &HostRuntime,
+    path: &'a [u8],
+    inputs: &[Option<FileId>],
+) -> Result<&'a str, Failure<'a>> {
+    let refused = |error| Failure::new(path, OutputMistake::NotReplaced(error));
     match open_path(rt, path) {
-        Ok(old) => old_replaceable(rt, path, status_of(&old), first, second),
-        Err(error) if error.kind() == ErrorKind::NotFound => true,
-        Err(error) => {
-            fail_by(rt, path, b"cannot be replaced", error);
-            false
+        Ok(old) => check_old(path, &old, inputs)?,
+        Err(error) if error.kind() == ErrorKind::NotFound => {}
+        Err(error) => return Err(refused(error)),
+    }
+    path_text(path).map_err(refused)
+}
+
+// An output that is being written.
+#[derive(Drop)]
+pub struct Output<'a> {
+    name: NewName<'a>,
+    file: File,
+}
+
+impl<'a> Output<'a> {
+    // Makes the new file. The inputs are the files that it may not replace.
+    pub fn create(
+        rt: &HostRuntime,
+        path: &'a [u8],
+        inputs: &[Option<FileId>],
+    ) -> Result<Output<'a>, Failure<'a>> {
+        if path.len() > LONGEST {
+            return Err(Failure::new(path, OutputMistake::LongName));
+        }
+        let text = replaceable(rt, path, inputs)?;
+        let name = NewName {
+            path: text,
+            process: process::id(rt.process()),
+        };
+        match name.create(rt) {
+            Ok(file) => Ok(Output { name, file }),
+            Err(error) => Err(Failure::new(path, OutputMistake::NotMade(name, error))),
         }
     }
-}
 
-// The line of a new file that cannot be made.
-fn fail_new(rt: &impl Print, path: &[u8], name: &[u8], error: io::Error) {
-    fail_of(rt, path);
-    say(rt, b"cannot be written, since ");
-    say(rt, name);
-    say(rt, b" cannot be made: ");
-    say_reason(rt, error);
-    say(rt, b"\n");
-}
-
-// Makes a file that is not there yet.
-fn create_new(rt: &HostRuntime, name: &[u8]) -> io::Result<File> {
-    OpenOptions::new()
-        .write(true)
-        .create_new(true)
-        .open(rt, path_text(name)?)
-}
-
-// Makes the new file, or answers none after the line of a mistake. The open files are the inputs.
-pub fn create(rt: &HostRuntime, path: &[u8], first: &File, second: Option<&File>) -> Option<File> {
-    if path.len() > LONGEST {
-        fail(rt, path, b"is too long a name; expected at most 4000 bytes");
-        return None;
+    // The failure of this output.
+    fn failure(&self, mistake: OutputMistake<'a>) -> Failure<'a> {
+        let path = self.name.path;
+        Failure::new(path.as_bytes(), mistake)
     }
-    if !replaceable(rt, path, first, second) {
-        return None;
+
+    // Writes to the new file.
+    pub fn write(&self, bytes: &[u8]) -> Result<(), Failure<'a>> {
+        let mut file = &self.file;
+        file.write_all(bytes)
+            .map_err(|error| self.failure(OutputMistake::NotWritten(error)))
     }
-    let mut name = [0u8; 4096];
-    let n = new_name(rt, path, &mut name);
-    match create_new(rt, &name[..n]) {
-        Ok(out) => Some(out),
-        Err(error) => {
-            fail_new(rt, path, &name[..n], error);
-            None
+
+    // Writes the header of a picture.
+    pub(crate) fn write_header(&self, size: Size) -> Result<(), Failure<'a>> {
+        let header = NewHeader {
+            width: size.width,
+            height: size.height,
+        };
+        let text = header.text();
+        self.write(text.as_bytes())
+    }
+
+    // Gives the new file the output's name once all of it has reached its device, and else removes it.
+    fn keep(self, rt: &HostRuntime) -> Result<(), Failure<'a>> {
+        let synced = self
+            .file
+            .sync_all()
+            .map_err(|error| self.failure(OutputMistake::NotWritten(error)));
+        let Output { name, file } = self;
+        drop(file);
+        let path = name.path;
+        let kept = match synced {
+            Ok(()) => name.rename(rt).map_err(|error| Failure::new(
+                path.as_bytes(),
+                OutputMistake::NotReplaced(error),
+            )),
+            Err(failure) => Err(failure),
+        };
+        if kept.is_err() {
+            let _ = name.remove(rt);
+        }
+        kept
+    }
+
+    // Removes the new file.
+    fn discard(self, rt: &HostRuntime) {
+        let Output { name, file } = self;
+        drop(file);
+        let _ = name.remove(rt);
+    }
+
+    // Puts the new file in place of the old one where all of it was written, and else removes it.
+    pub fn settle<T: Drop, E: From<Failure<'a>>>(
+        self,
+        rt: &HostRuntime,
+        written: Result<T, E>,
+    ) -> Result<T, E> {
+        match written {
+            Ok(value) => {
+                self.keep(rt)?;
+                Ok(value)
+            }
+            Err(failure) => {
+                self.discard(rt);
+                Err(failure)
+            }
         }
     }
-}
-
-// Writes to the new file, or says that it cannot.
-pub fn write(rt: &impl Print, path: &[u8], mut out: &File, bytes: &[u8]) -> bool {
-    match out.write_all(bytes) {
-        Ok(()) => true,
-        Err(error) => {
-            fail_by(rt, path, b"cannot be written", error);
-            false
-        }
-    }
-}
-
-// Removes the file of a path, where there is one.
-fn remove(rt: &HostRuntime, path: &[u8]) {
-    if let Ok(text) = path_text(path) {
-        let _ = fs::remove_file(rt, text);
-    }
-}
-
-// Removes the new file after a mistake.
-pub fn discard(rt: &HostRuntime, path: &[u8], out: File) {
-    let mut name = [0u8; 4096];
-    let n = new_name(rt, path, &mut name);
-    drop(out);
-    remove(rt, &name[..n]);
-}
-
-// Renames a file.
-fn rename(rt: &HostRuntime, from: &[u8], to: &[u8]) -> io::Result<()> {
-    fs::rename(rt, path_text(from)?, path_text(to)?)
-}
-
-// Gives the new file the output's name once all of it has reached its device.
-pub fn keep(rt: &HostRuntime, path: &[u8], out: File) -> bool {
-    let mut name = [0u8; 4096];
-    let n = new_name(rt, path, &mut name);
-    if let Err(error) = out.sync_all() {
-        fail_by(rt, path, b"cannot be written", error);
-        discard(rt, path, out);
-        return false;
-    }
-    drop(out);
-    if let Err(error) = rename(rt, &name[..n], path) {
-        fail_by(rt, path, b"cannot be replaced", error);
-        remove(rt, &name[..n]);
-        return false;
-    }
-    true
-}
-
-// Writes the header of a picture.
-pub(crate) fn write_header(
-    rt: &impl Print,
-    path: &[u8],
-    out: &File,
-    width: usize,
-    height: usize,
-) -> bool
-    requires { Sized width height }
-{
-    let mut bytes = [0u8; 32];
-    let n = put_header(width, height, &mut bytes, 0);
-    write(rt, path, out, &bytes[..n])
 }

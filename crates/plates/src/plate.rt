@@ -1,85 +1,123 @@
 // Plates: opened, their blocks counted, and read a row at a time.
-ghost use Rattle.std.specs.Prelude.{IfSome, ◌<◌, ◌≤◌};
+ghost use Rattle.std.specs.Prelude.{◌<◌, ◌≤◌};
 
-use crate::inputs::{go_to, length_of, open};
-use crate::said::{fail, fail_of, say, say_number};
-use files::read_full;
-use groups::{across, number_at};
+use crate::failure::Failure;
+use crate::inputs::{go_to, id_of, length_of, open};
+use crate::report::Place;
+use crate::size::Size;
+use block::Refusal;
+use files::{FileId, read_full};
+use groups::number_at;
+use std::fmt;
 use std::fs::File;
-use std::io::Print;
 
 // The bytes of a row of blocks of the greatest width.
 pub const ROW: usize = 65536;
 
+// What is wrong with a plate.
+#[derive(Clone, Copy)]
+pub enum PlateMistake {
+    PartOfBlock { has: u64 },
+    OtherSize { has: u64, expected: u64, size: Size },
+    EndsEarly,
+    Reserved(Place),
+    OtherMode(Place),
+}
+
+impl fmt::Display for PlateMistake {
+    fn fmt<W: fmt::Write>(&self, f: &mut fmt::Formatter<W>) -> fmt::Result {
+        match *self {
+            PlateMistake::PartOfBlock { has } => {
+                write!(f, "has {has} bytes; expected whole blocks of 16")
+            }
+            PlateMistake::OtherSize {
+                has,
+                expected,
+                size,
+            } => write!(f, "has {has} blocks; expected {expected} for {size}"),
+            PlateMistake::EndsEarly => {
+                f.write_str("ends early; expected the blocks that it had when it was opened")
+            }
+            PlateMistake::Reserved(place) => write!(
+                f,
+                "{place} is reserved, its first byte is 0; expected mode 1 or 3"
+            ),
+            PlateMistake::OtherMode(place) => {
+                write!(f, "{place} has another mode; expected mode 1 or 3")
+            }
+        }
+    }
+}
+
 // A plate that is open for reading and how many blocks it has.
 #[derive(Drop)]
-pub(crate) struct Plate {
-    pub file: File,
+pub(crate) struct Plate<'a> {
+    path: &'a [u8],
+    file: File,
     pub blocks: u64,
+    ghost few: { blocks < 1152921504606846976 },
 }
 
-// The line of a plate that ends inside a block.
-fn fail_part(rt: &impl Print, path: &[u8], has: u64) {
-    fail_of(rt, path);
-    say(rt, b"has ");
-    say_number(rt, has);
-    say(rt, b" bytes; expected whole blocks of 16\n");
-}
+impl<'a> Plate<'a> {
+    // Opens a plate.
+    pub(crate) fn open(rt: &HostRuntime, path: &'a [u8]) -> Result<Plate<'a>, Failure<'a>> {
+        let file = open(rt, path)?;
+        let has = length_of(&file).map_err(|mistake| Failure::new(path, mistake))?;
+        let plate = Plate {
+            path,
+            file,
+            blocks: has / 16,
+        };
+        plate.rewind()?;
+        if has % 16 != 0 {
+            return Err(Failure::new(path, PlateMistake::PartOfBlock { has }));
+        }
+        Ok(plate)
+    }
 
-// Opens a plate, or says what is wrong with it.
-pub(crate) fn open_plate(rt: &HostRuntime, path: &[u8]) -> Option<Plate>
-    ensures { IfSome result (λ p. p.blocks < 1152921504606846976) }
-{
-    let file = open(rt, path)?;
-    let has = length_of(rt, path, &file)?;
-    if !go_to(rt, path, &file, 0) {
-        return None;
+    // Which file it is, where that is known.
+    pub(crate) fn id(&self) -> Option<FileId> {
+        id_of(&self.file)
     }
-    if has % 16 != 0 {
-        fail_part(rt, path, has);
-        return None;
-    }
-    Some(Plate {
-        file,
-        blocks: has / 16,
-    })
-}
 
-// Whether a plate has the blocks of a picture of this size.
-pub(crate) fn fits(rt: &impl Print, path: &[u8], plate: &Plate, width: usize, height: usize) -> bool
-    requires { (width ≤ 16384) × (height ≤ 16384) }
-{
-    let expected = number_at(across(height), across(width), 0) as u64;
-    if plate.blocks == expected {
-        return true;
+    // The failure of this plate.
+    pub(crate) fn failure(&self, mistake: PlateMistake) -> Failure<'a> {
+        Failure::new(self.path, mistake)
     }
-    fail_of(rt, path);
-    say(rt, b"has ");
-    say_number(rt, plate.blocks);
-    say(rt, b" blocks; expected ");
-    say_number(rt, expected);
-    say(rt, b" for ");
-    say_number(rt, width as u64);
-    say(rt, b" by ");
-    say_number(rt, height as u64);
-    say(rt, b" pixels\n");
-    false
-}
 
-// Reads the next blocks of a plate.
-pub(crate) fn read_blocks(
-    rt: &impl Print,
-    path: &[u8],
-    mut file: &File,
-    blocks: &mut [u8],
-) -> bool {
-    if read_full(&mut file, blocks) == blocks.len() {
-        return true;
+    // The failure of this plate by a block that is declined.
+    pub(crate) fn declined(&self, refusal: Refusal, place: Place) -> Failure<'a> {
+        self.failure(match refusal {
+            Refusal::Reserved => PlateMistake::Reserved(place),
+            _ => PlateMistake::OtherMode(place),
+        })
     }
-    fail(
-        rt,
-        path,
-        b"ends early; expected the blocks that it had when it was opened",
-    );
-    false
+
+    // Goes to the first block.
+    pub(crate) fn rewind(&self) -> Result<(), Failure<'a>> {
+        go_to(&self.file, 0).map_err(|mistake| Failure::new(self.path, mistake))
+    }
+
+    // Refuses a plate that has not the blocks of a picture of this size.
+    pub(crate) fn check_size(&self, size: Size) -> Result<(), Failure<'a>> {
+        let has = self.blocks;
+        let expected = number_at(size.rows(), size.columns(), 0) as u64;
+        if has != expected {
+            return Err(self.failure(PlateMistake::OtherSize {
+                has,
+                expected,
+                size,
+            }));
+        }
+        Ok(())
+    }
+
+    // Reads the next blocks.
+    pub(crate) fn read_blocks(&self, blocks: &mut [u8]) -> Result<(), Failure<'a>> {
+        let mut file = &self.file;
+        if read_full(&mut file, blocks) != blocks.len() {
+            return Err(self.failure(PlateMistake::EndsEarly));
+        }
+        Ok(())
+    }
 }

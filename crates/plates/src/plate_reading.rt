@@ -1,177 +1,130 @@
 // `bc7 read`: the fields of each block of a plate in words.
-ghost use Rattle.std.specs.Prelude.{◌≡◌, ◌<◌, ◌≤◌, min, length};
-ghost use Rattle.io.specs.Counts.{IsPrefixLen};
+ghost use Rattle.std.specs.Prelude.{◌+◌, ◌<◌, ◌≤◌, length};
 
-use crate::plate::{Plate, ROW, open_plate, read_blocks};
-use crate::said::{say, say_number};
-use crate::table::{TEXT, flushed};
-use block::{Reading, Rgb};
-use std::fs::File;
+use crate::failure::Failure;
+use crate::lines::Lines;
+use crate::plate::{Plate, ROW};
+use crate::said::say_done;
+use block::{Reading, Refusal, Rgb};
+use std::fmt;
 use std::io::Print;
-use text::line::{put, put_decimal};
 
 // The blocks that are read at once.
 const BLOCKS: u64 = 4096;
 
 // An endpoint: red, green, blue.
-fn put_end(end: Rgb, text: &mut [u8; TEXT], start: usize) -> usize
-    ensures { IsPrefixLen result text.new }
-{
-    let mut at = put_decimal(end.r as u64, text, start);
-    at = put(b" ", text, at);
-    at = put_decimal(end.g as u64, text, at);
-    at = put(b" ", text, at);
-    put_decimal(end.b as u64, text, at)
-}
+#[derive(Clone, Copy)]
+struct End(Rgb);
 
-// The endpoints of both subsets.
-fn put_ends(ends: [Rgb; 4], text: &mut [u8; TEXT], start: usize) -> usize
-    ensures { IsPrefixLen result text.new }
-{
-    let mut at = put(b", subset 0 from ", text, start);
-    at = put_end(ends[0], text, at);
-    at = put(b" to ", text, at);
-    at = put_end(ends[1], text, at);
-    at = put(b", subset 1 from ", text, at);
-    at = put_end(ends[2], text, at);
-    at = put(b" to ", text, at);
-    put_end(ends[3], text, at)
+impl fmt::Display for End {
+    fn fmt<W: fmt::Write>(&self, f: &mut fmt::Formatter<W>) -> fmt::Result {
+        write!(f, "{} {} {}", self.0.r, self.0.g, self.0.b)
+    }
 }
 
 // The p-bits, the lowest first: one for each subset in mode 1, one for each endpoint in mode 3.
-fn put_p_bits(mode: u8, p: u8, text: &mut [u8; TEXT], start: usize) -> usize
-    ensures { IsPrefixLen result text.new }
-{
-    let mut at = put(b", p-bits ", text, start);
-    at = put_decimal((p % 2) as u64, text, at);
-    at = put(b" ", text, at);
-    at = put_decimal((p / 2 % 2) as u64, text, at);
-    if mode == 3 {
-        at = put(b" ", text, at);
-        at = put_decimal((p / 4 % 2) as u64, text, at);
-        at = put(b" ", text, at);
-        at = put_decimal((p / 8 % 2) as u64, text, at);
-    }
-    at
+#[derive(Clone, Copy)]
+struct PBits {
+    mode: u8,
+    p: u8,
 }
 
-// The sixteen indices in pixel order.
-fn put_indices(indices: [u8; 16], text: &mut [u8; TEXT], start: usize) -> usize
-    ensures { IsPrefixLen result text.new }
-{
-    let mut at = put(b", indices", text, start);
-    let mut i: usize = 0;
-    while i < 16 {
-        at = put(b" ", text, at);
-        at = put_decimal(indices[i] as u64, text, at);
-        i += 1;
+impl fmt::Display for PBits {
+    fn fmt<W: fmt::Write>(&self, f: &mut fmt::Formatter<W>) -> fmt::Result {
+        let p = self.p;
+        write!(f, "{} {}", p % 2, p / 2 % 2)?;
+        if self.mode == 3 {
+            write!(f, " {} {}", p / 4 % 2, p / 8 % 2)?;
+        }
+        Ok(())
     }
-    at
 }
 
-// A block that is read.
-fn put_fields(r: Reading, text: &mut [u8; TEXT], start: usize) -> usize
-    ensures { IsPrefixLen result text.new }
-{
-    let ends = r.ends;
-    let indices = r.indices;
-    let mut at = put(b"mode ", text, start);
-    at = put_decimal(r.mode as u64, text, at);
-    at = put(b", partition ", text, at);
-    at = put_decimal(r.partition as u64, text, at);
-    at = put_ends(ends, text, at);
-    at = put_p_bits(r.mode, r.p, text, at);
-    put_indices(indices, text, at)
+// The sixteen indices in pixel order, with a space before each.
+#[derive(Clone, Copy)]
+struct Indices([u8; 16]);
+
+impl fmt::Display for Indices {
+    fn fmt<W: fmt::Write>(&self, f: &mut fmt::Formatter<W>) -> fmt::Result {
+        for index in self.0 {
+            write!(f, " {index}")?;
+        }
+        Ok(())
+    }
+}
+
+// The fields of a block in words.
+#[derive(Clone, Copy)]
+struct InWords(Reading);
+
+impl fmt::Display for InWords {
+    fn fmt<W: fmt::Write>(&self, f: &mut fmt::Formatter<W>) -> fmt::Result {
+        let mode = self.0.mode;
+        let fields = self.0.fields;
+        let [first, second, third, fourth] = fields.ends;
+        write!(
+            f,
+            "mode {mode}, partition {}, subset 0 from {} to {}, subset 1 from {} to {}, p-bits {}, indices{}",
+            fields.partition,
+            End(first),
+            End(second),
+            End(third),
+            End(fourth),
+            PBits { mode, p: fields.p },
+            Indices(fields.indices)
+        )
+    }
 }
 
 // The line of a block.
-fn put_block(block: &[u8], number: u64, text: &mut [u8; TEXT], start: usize) -> usize
-    ensures { IsPrefixLen result text.new }
-{
-    let mut pixels = [0u8; 48];
-    let r = block::read(block, &mut pixels);
-    let mut at = put(b"block ", text, start);
-    at = put_decimal(number, text, at);
-    at = put(b": ", text, at);
-    let refusal = r.refusal;
-    at = match refusal {
-        0 => put_fields(r, text, at),
-        8 => put(b"reserved, its first byte is 0", text, at),
-        _ => put(b"another mode than 1 and 3", text, at),
-    };
-    put(b"\n", text, at)
+#[derive(Clone, Copy)]
+struct BlockLine {
+    number: u64,
+    reading: Result<Reading, Refusal>,
+}
+
+impl fmt::Display for BlockLine {
+    fn fmt<W: fmt::Write>(&self, f: &mut fmt::Formatter<W>) -> fmt::Result {
+        write!(f, "block {}: ", self.number)?;
+        match self.reading {
+            Ok(reading) => write!(f, "{}", InWords(reading)),
+            Err(Refusal::Reserved) => f.write_str("reserved, its first byte is 0"),
+            Err(_) => f.write_str("another mode than 1 and 3"),
+        }
+    }
 }
 
 // The lines of blocks from a number on.
 fn put_blocks(rt: &impl Print, blocks: &[u8], first: u64)
-    requires { (length blocks.now ≤ 65536) × (first < 1152921504606846976) }
+    requires { first < 1152921504606846976 }
 {
-    let mut text = [0u8; TEXT];
-    let mut at: usize = 0;
-    let mut k: usize = 0;
-    while k < blocks.len() / 16 {
-        let start = k * 16;
-        let end = start + 16;
-        at = put_block(&blocks[start..end], first + k as u64, &mut text, at);
-        at = flushed(rt, &text, at);
-        k += 1;
+    let mut lines = Lines::new(rt);
+    for (number, block) in (first..u64::MAX).zip(blocks.chunks_exact(16)) {
+        let mut pixels = [0u8; 48];
+        let reading = block::read(block, &mut pixels);
+        lines.put(BlockLine { number, reading });
     }
-    say(rt, &text[..at]);
-}
-
-// Reads so many blocks of a plate, and puts their lines.
-fn read_some(
-    rt: &impl Print,
-    path: &[u8],
-    file: &File,
-    n: usize,
-    first: u64,
-    blocks: &mut [u8; ROW],
-) -> bool
-    requires { (n ≤ 4096) × (first < 1152921504606846976) }
-{
-    let b = n * 16;
-    let plates: &mut [u8] = blocks;
-    if !read_blocks(rt, path, file, &mut plates[0..b]) {
-        return false;
-    }
-    let read = &plates[..];
-    put_blocks(rt, &read[0..b], first);
-    true
+    lines.flush();
 }
 
 // Reads the blocks of a plate, so many at a time.
-fn read_plate(rt: &impl Print, path: &[u8], plate: &Plate) -> bool
-    requires { plate.now.blocks < 1152921504606846976 }
-{
-    let mut blocks = [0u8; ROW];
-    let mut done: u64 = 0;
-    let mut ok = true;
-    while done < plate.blocks && ok {
-        let n = least(plate.blocks - done, BLOCKS);
-        ok = read_some(rt, path, &plate.file, n as usize, done, &mut blocks);
-        done += n;
+fn read_plate<'a>(rt: &impl Print, plate: &Plate<'a>) -> Result<(), Failure<'a>> {
+    let mut all = [0u8; ROW];
+    for part in 0..plate.blocks.div_ceil(BLOCKS) {
+        let first = part * BLOCKS;
+        let n = BLOCKS.min(plate.blocks - first);
+        let blocks = &mut all[..n as usize * 16];
+        plate.read_blocks(blocks)?;
+        put_blocks(rt, blocks, first);
     }
-    ok
-}
-
-// The lesser of two numbers.
-fn least(a: u64, b: u64) -> u64
-    ensures { result ≡ min a b }
-{
-    if a < b { a } else { b }
+    Ok(())
 }
 
 // Says the fields of each block.
-pub fn read(rt: &HostRuntime, path: &[u8]) {
-    let Some(plate) = open_plate(rt, path) else {
-        return;
-    };
-    if read_plate(rt, path, &plate) {
-        say(rt, b"blocks ");
-        say_number(rt, plate.blocks);
-        say(rt, b"\ndone: ");
-        say(rt, path);
-        say(rt, b" is read\n");
-    }
+pub fn read<'a>(rt: &HostRuntime, path: &'a [u8]) -> Result<(), Failure<'a>> {
+    let plate = Plate::open(rt, path)?;
+    read_plate(rt, &plate)?;
+    let _ = println!(rt; "blocks {}", plate.blocks);
+    say_done(rt, path, "read");
+    Ok(())
 }

@@ -1,174 +1,92 @@
 // `bc7 show`: the picture that a plate's blocks show.
-ghost use Rattle.std.specs.Prelude.{◌+◌, ◌*◌, ◌<◌, ◌≤◌, ◌≡◌, length};
+ghost use Rattle.std.specs.Prelude.{◌*◌, ◌<◌, ◌≤◌, ◌≡◌};
 ghost use Rattle.groups.specs.Cutting.{groups_across};
-ghost use Rattle.plates.specs.Sizes.{Sized};
 
-use crate::compared::fail_block;
-use crate::output::{create, discard, keep, write, write_header};
-use crate::photo::BAND;
-use crate::plate::{Plate, ROW, fits, open_plate, read_blocks};
-use crate::progress::{progress, progress_ended};
-use crate::report::place_at;
-use crate::said::say;
+use crate::buffers::Buffers;
+use crate::failure::Failure;
+use crate::output::Output;
+use crate::plate::Plate;
+use crate::progress::{RowWork, each_row};
+use crate::report::Place;
+use crate::said::say_done;
+use crate::size::Size;
 use figures::row::read_row;
-use groups::{across, picture_bytes, put_back, rows_in};
-use std::fs::File;
-use std::io::Print;
+use groups::picture_bytes;
 
-// The size of the picture, the plate and the new file.
-#[derive(Clone, Copy)]
-struct Job<'a> {
-    width: usize,
-    height: usize,
-    plate: &'a Plate,
-    out: &'a File,
+// A plate that is shown: the size of its picture, the new file and the buffers.
+#[derive(Drop)]
+struct Showing<'a, 'b> {
+    plate: &'b Plate<'a>,
+    size: Size,
+    out: &'b Output<'a>,
+    buffers: &'b mut Buffers,
 }
 
-// Writes the rows of pixels that a row of groups has.
-fn write_band(
-    rt: &impl Print,
-    path: &[u8],
-    out: &File,
-    width: usize,
-    rows: usize,
-    groups: &[u8],
-    band: &mut [u8; BAND],
-) -> bool
-    requires size { (0 < width) × (width ≤ 16384) × (0 < rows) × (rows ≤ 4) }
-    requires room { length groups.now ≡ 48 * groups_across width }
-{
-    let m = picture_bytes(width, rows);
-    let bytes: &mut [u8] = band;
-    put_back(groups, width, rows, &mut bytes[0..m]);
-    let written = &bytes[..];
-    write(rt, path, out, &written[0..m])
-}
+impl<'a> RowWork for Showing<'a, '_> {
+    type Error = Failure<'a>;
 
-// Reads a row of blocks, and the groups of pixels that it shows.
-fn read_shown(
-    rt: &impl Print,
-    path: &[u8],
-    file: &File,
-    row: usize,
-    n: usize,
-    blocks: &mut [u8; ROW],
-    groups: &mut [u8],
-) -> bool
-    requires { (length groups.old ≡ 48 * n) × (n ≤ 4096) × (row < 4096) }
-{
-    let b = n * 16;
-    let plates: &mut [u8] = blocks;
-    if !read_blocks(rt, path, file, &mut plates[0..b]) {
-        return false;
+    ghost rows_in = { λ s. groups_across s.size.height };
+
+    ghost ready = { λ _ _. Unit {0} };
+
+    fn rows(&self) -> usize {
+        self.size.rows()
     }
-    let read = &plates[..];
-    let shown = read_row(&read[0..b], groups, n);
-    if shown.refusal != 0 {
-        fail_block(rt, path, shown.refusal, place_at(row, n, shown.at));
-        return false;
+
+    fn name(&self) -> Option<&'static str> {
+        Some("showing")
     }
-    true
+
+    fn work_on(&mut self, _rt: &HostRuntime, row: usize) -> Result<(), Failure<'a>> {
+        let columns = self.size.columns();
+        let buffers = &mut *self.buffers;
+        let blocks = &mut buffers.blocks[..];
+        let blocks = &mut blocks[..columns * 16];
+        let groups = &mut buffers.groups[..];
+        let groups = &mut groups[..columns * 48];
+        self.plate.read_blocks(blocks)?;
+        if let Err(declined) = read_row(blocks, groups) {
+            let place = Place::at(row, columns, declined.at);
+            return Err(self.plate.declined(declined.refusal, place));
+        }
+        let part = self.size.band(row);
+        let band = &mut buffers.band[..];
+        let band = &mut band[..picture_bytes(part.width, part.rows)];
+        part.put_back(groups, band);
+        self.out.write(band)
+    }
 }
 
-// Reads a row of blocks and writes the rows of pixels that it shows.
-fn show_next(
-    rt: &impl Print,
-    plate_path: &[u8],
-    out_path: &[u8],
-    job: Job<'_>,
-    row: usize,
-    blocks: &mut [u8; ROW],
-    groups: &mut [u8; BAND],
-    band: &mut [u8; BAND],
-) -> bool
-    requires { Sized job.width job.height × (row * 4 < job.height) }
-{
-    let plate = job.plate;
-    let width = job.width;
-    let n = across(width);
-    let g = n * 48;
-    let pixels: &mut [u8] = groups;
-    if !read_shown(
-        rt,
-        plate_path,
-        &plate.file,
-        row,
-        n,
-        blocks,
-        &mut pixels[0..g],
-    ) {
-        return false;
-    }
-    let cut = &pixels[..];
-    let rows = rows_in(job.height, row);
-    write_band(rt, out_path, job.out, width, rows, &cut[0..g], band)
-}
-
-// Shows a plate row by row.
-fn show_rows(rt: &HostRuntime, plate_path: &[u8], out_path: &[u8], job: Job<'_>) -> bool
-    requires { Sized job.width job.height }
-{
-    let rows = across(job.height);
-    let mut blocks = [0u8; ROW];
-    let mut groups = [0u8; BAND];
-    let mut band = [0u8; BAND];
-    let mut ok = write_header(rt, out_path, job.out, job.width, job.height);
-    let mut row: usize = 0;
-    while row < rows && ok {
-        progress(rt, b"showing", row, rows);
-        ok = show_next(
-            rt,
-            plate_path,
-            out_path,
-            job,
-            row,
-            &mut blocks,
-            &mut groups,
-            &mut band,
-        );
-        row += 1;
-    }
-    progress_ended(rt, rows);
-    ok
-}
-
-// Writes the picture that an open plate shows.
-fn show_plate(
+// Writes the picture row by row.
+fn show_rows<'a>(
     rt: &HostRuntime,
-    plate_path: &[u8],
-    plate: &Plate,
-    width: usize,
-    height: usize,
-    out_path: &[u8],
-)
-    requires { Sized width height }
-{
-    let Some(out) = create(rt, out_path, &plate.file, None) else {
-        return;
-    };
-    let job = Job {
-        width,
-        height,
+    plate: &Plate<'a>,
+    size: Size,
+    out: &Output<'a>,
+) -> Result<(), Failure<'a>> {
+    out.write_header(size)?;
+    let mut buffers = Buffers::new();
+    let mut work = Showing {
         plate,
-        out: &out,
+        size,
+        out,
+        buffers: &mut buffers,
     };
-    if !show_rows(rt, plate_path, out_path, job) {
-        discard(rt, out_path, out);
-    } else if keep(rt, out_path, out) {
-        say(rt, b"done: ");
-        say(rt, out_path);
-        say(rt, b" is written\n");
-    }
+    each_row(rt, &mut work)
 }
 
 // Writes the picture that a plate of this size shows.
-pub fn show(rt: &HostRuntime, plate_path: &[u8], width: usize, height: usize, out_path: &[u8])
-    requires { Sized width height }
-{
-    let Some(plate) = open_plate(rt, plate_path) else {
-        return;
-    };
-    if fits(rt, plate_path, &plate, width, height) {
-        show_plate(rt, plate_path, &plate, width, height, out_path);
-    }
+pub fn show<'a>(
+    rt: &HostRuntime,
+    plate_path: &'a [u8],
+    size: Size,
+    out_path: &'a [u8],
+) -> Result<(), Failure<'a>> {
+    let plate = Plate::open(rt, plate_path)?;
+    plate.check_size(size)?;
+    let out = Output::create(rt, out_path, &[plate.id()])?;
+    let shown = show_rows(rt, &plate, size, &out);
+    out.settle(rt, shown)?;
+    say_done(rt, out_path, "written");
+    Ok(())
 }

@@ -1,138 +1,98 @@
 // The lines of measured blocks: column, row, mode, partition and error.
 ghost use Rattle.std.specs.Prelude.{◌≡◌, ◌+◌, ◌*◌, ◌<◌, ◌≤◌, length};
-ghost use Rattle.io.specs.Counts.{IsPrefixLen};
 
-use crate::said::say;
-use block::Reading;
-use figures::worst::{insert, key, key_error, key_mode, key_number, key_partition};
+use crate::lines::Lines;
+use figures::entry::Entry;
+use figures::worst::insert;
 use groups::number_at;
+use std::fmt;
 use std::io::Print;
-use text::line::{put, put_decimal};
 
-// The bytes of lines that are written at once.
-pub(crate) const TEXT: usize = 65536;
-
-// Where there is no room for one more line.
-pub(crate) const FULL: usize = 65024;
-
-// A line: five numbers with a space between.
-fn put_entry(
-    text: &mut [u8; TEXT],
-    start: usize,
+// A line of the table.
+#[derive(Clone, Copy, Debug, PartialEq, Eq)]
+struct TableLine {
     column: u64,
     row: u64,
     mode: u64,
     partition: u64,
     error: u64,
-) -> usize
-    ensures { IsPrefixLen result text.new }
-{
-    let mut at = put_decimal(column, text, start);
-    at = put(b" ", text, at);
-    at = put_decimal(row, text, at);
-    at = put(b" ", text, at);
-    at = put_decimal(mode, text, at);
-    at = put(b" ", text, at);
-    at = put_decimal(partition, text, at);
-    at = put(b" ", text, at);
-    at = put_decimal(error, text, at);
-    put(b"\n", text, at)
 }
 
-// Writes the lines where there is no room for one more, and answers where the next begins.
-pub(crate) fn flushed(rt: &impl Print, text: &[u8; TEXT], at: usize) -> usize
-    requires { IsPrefixLen at text.now }
-    ensures { IsPrefixLen result text.now }
-{
-    if at < FULL {
-        return at;
+impl fmt::Display for TableLine {
+    fn fmt<W: fmt::Write>(&self, f: &mut fmt::Formatter<W>) -> fmt::Result {
+        write!(
+            f,
+            "{} {} {} {} {}",
+            self.column, self.row, self.mode, self.partition, self.error
+        )
     }
-    let lines: &[u8] = text;
-    say(rt, &lines[..at]);
-    0
 }
 
-// An error as a number to be written.
-fn wide(error: u32) -> u64 {
-    error as u64
-}
-
-// The fields of a block.
-fn fields(block: &[u8]) -> Reading {
+// The mode and the partition of a block; 0 for both where it is declined.
+fn mode_and_partition(block: &[u8]) -> (u8, u8) {
     let mut pixels = [0u8; 48];
-    block::read(block, &mut pixels)
+    match block::read(block, &mut pixels) {
+        Ok(reading) => (reading.mode, reading.fields.partition),
+        Err(_) => (0, 0),
+    }
 }
 
 // The lines of a row of blocks.
-pub(crate) fn put_row(rt: &impl Print, row: usize, blocks: &[u8], errors: &[u32])
-    requires { (length blocks.now ≡ 16 * length errors.now) × (length errors.now ≤ 4096) }
-{
-    let mut text = [0u8; TEXT];
-    let mut at: usize = 0;
-    let mut k: usize = 0;
-    while k < errors.len() {
-        let start = k * 16;
-        let end = start + 16;
-        let f = fields(&blocks[start..end]);
-        at = put_entry(
-            &mut text,
-            at,
-            k as u64,
-            row as u64,
-            f.mode as u64,
-            f.partition as u64,
-            wide(errors[k]),
-        );
-        at = flushed(rt, &text, at);
-        k += 1;
+pub(crate) fn put_row(rt: &impl Print, row: usize, blocks: &[u8], errors: &[u32]) {
+    let mut lines = Lines::new(rt);
+    for (column, (block, error)) in blocks.chunks_exact(16).zip(errors).enumerate() {
+        let (mode, partition) = mode_and_partition(block);
+        lines.put(TableLine {
+            column: column as u64,
+            row: row as u64,
+            mode: u64::from(mode),
+            partition: u64::from(partition),
+            error: u64::from(*error),
+        });
     }
-    say(rt, &text[..at]);
+    lines.flush();
 }
 
 // Keeps the worst of a row of blocks.
-pub(crate) fn insert_row(row: usize, blocks: &[u8], errors: &[u32], keys: &mut [u64])
-    requires { (length blocks.now ≡ 16 * length errors.now) × (length errors.now ≤ 4096) × (row < 4096) }
+pub(crate) fn insert_row(row: usize, blocks: &[u8], errors: &[u32], worst: &mut [Option<Entry>])
+    requires { (length errors.now ≤ 4096) × (row < 4096) }
 {
+    if worst.is_empty() {
+        return;
+    }
     let columns = errors.len();
-    let mut k: usize = 0;
-    while k < columns {
-        let start = k * 16;
-        let end = start + 16;
-        let f = fields(&blocks[start..end]);
-        let number = number_at(row, columns, k) as u32;
-        insert(keys, key(errors[k], number, f.mode, f.partition));
-        k += 1;
+    for (column, (error, block)) in errors.iter().zip(blocks.chunks_exact(16)).enumerate() {
+        let (mode, partition) = mode_and_partition(block);
+        let number = number_at(row, columns, column) as u32;
+        let entry = Entry::new(*error, number, mode, partition);
+        // most blocks are no worse than the last of these, and would fall out after a walk over all places
+        if worst.last().is_some_and(|last| *last < Some(entry)) {
+            insert(worst, entry);
+        }
     }
 }
 
-// The line of a key.
-fn put_key(text: &mut [u8; TEXT], at: usize, key: u64, columns: u64) -> usize
+// The line of one of the worst blocks.
+fn line_of(entry: Entry, columns: u64) -> TableLine
     requires { 0 < columns }
-    ensures { IsPrefixLen result text.new }
 {
-    let number = key_number(key);
-    put_entry(
-        text,
-        at,
-        number % columns,
-        number / columns,
-        key_mode(key),
-        key_partition(key),
-        key_error(key),
-    )
+    let number = u64::from(entry.number.0);
+    TableLine {
+        column: number % columns,
+        row: number / columns,
+        mode: u64::from(entry.mode),
+        partition: u64::from(entry.partition),
+        error: u64::from(entry.error),
+    }
 }
 
 // The lines of the worst blocks, the worst first.
-pub(crate) fn put_worst(rt: &impl Print, keys: &[u64], columns: usize)
+pub(crate) fn put_worst(rt: &impl Print, worst: &[Option<Entry>], columns: usize)
     requires { 0 < columns }
 {
-    let mut text = [0u8; TEXT];
-    let mut at: usize = 0;
-    let mut i: usize = 0;
-    while i < keys.len() && keys[i] != 0 {
-        at = put_key(&mut text, at, keys[i], columns as u64);
-        at = flushed(rt, &text, at);
-        i += 1;
+    let mut lines = Lines::new(rt);
+    for entry in worst.iter().flatten() {
+        lines.put(line_of(*entry, columns as u64));
     }
-    say(rt, &text[..at]);
+    lines.flush();
 }

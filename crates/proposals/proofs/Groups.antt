@@ -11,11 +11,14 @@ use Rattle.bptc_block.specs.FinishCall.{finish_refusal, finish_into}
 use Rattle.bptc_block.specs.Compressed.{Compressed}
 use Rattle.bptc_block.proofs.Packed.{packed-length}
 use Rattle.chooser.specs.declared.Chooser.{Chooser}
-use Rattle.chooser.specs.declared.Started.{Started}
-use Rattle.chooser.specs.declared.Offered.{Offered}
+use Rattle.chooser.specs.Answers.{Started, Offered}
 use Rattle.chooser.specs.StartCall.{started_over, start_of}
 use Rattle.chooser.specs.OfferCall.{finish_gives, kept, offer_of}
 use Rattle.chooser.specs.Calls.{after, held}
+use Rattle.std.specs.Prelude.{Result, Ok, Err}
+use Rattle.std.specs.Result.{result_unwrap_or}
+use Rattle.refusals.specs.declared.Refusal.{Refusal}
+use Rattle.chooser.specs.Answers.{taken}
 use Rattle.chooser.proofs.Calls.{start-answer, offer_cases, held_kept}
 use Rattle.proposals.specs.Offers.{offers}
 use Rattle.proposals.specs.BuiltIn.{proposals_of}
@@ -56,3 +59,8 @@ unfolding baked
 baked-length px =
     let empty : length (start_of px).chooser.block ≡ 16 = ap (λ (s : Started). length s.chooser.block) (start-answer px) in
     rw (held_kept (chooser_for px) (replicate 16 0) refl) (after-length (proposals_of (started_over px)) (start_of px).chooser empty)
+
+-- the error that a take gives, 0 where it is declined
+pub taken-error : (r : Result ℕ Refusal) → result_unwrap_or r 0 ≡ (taken r).error
+taken-error (Ok error) = refl
+taken-error (Err refusal) = refl

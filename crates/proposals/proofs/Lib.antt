@@ -2,3 +2,4 @@ pub mod Offering
 pub mod Accepting
 pub mod Groups
 pub mod Baked
+pub mod Flags

@@ -7,7 +7,7 @@ use Rattle.lists.specs.Parts.{joined}
 use Rattle.lists.proofs.Rows.{each-suc}
 use Rattle.bptc_block.specs.declared.Candidate.{Candidate}
 use Rattle.chooser.specs.declared.Chooser.{Chooser}
-use Rattle.chooser.specs.declared.Offered.{Offered}
+use Rattle.chooser.specs.Answers.{Offered}
 use Rattle.chooser.specs.OfferCall.{offer_of}
 use Rattle.chooser.specs.Calls.{Call, offer, handed_back, after}
 use Rattle.chooser.proofs.Calls.{offer_cases}

@@ -11,27 +11,22 @@ fn bake(pixels: &[u8], block: &mut [u8]) -> u32
     ensures answer { result ≡ (baked pixels.now).error }
     ensures part { block.new ≡ (baked pixels.now).block }
 {
-    let started = Chooser::start(pixels);
-    let held = built_in(started.chooser);
-    let taken = held.take(block);
-    let answer = taken.answer;
-    answer.error
+    let (_, started) = Chooser::start(pixels);
+    let (error, _) = built_in(started).take(block);
+    error.unwrap_or(0)
 }
 
-// Bakes groups one after the other. Requires 48 bytes of pixels and 16 bytes for the block of each error.
+// Bakes groups one after the other. Requires 48 bytes of pixels and 16 bytes for the block of each error. The blocks are lent by their
+// places: a proof knows nothing of what is written through an iterator over parts.
 pub fn bake_row(groups: &[u8], blocks: &mut [u8], errors: &mut [u32])
     requires pixels { length groups.now ≡ 48 * length errors.old }
     requires parts { length blocks.old ≡ 16 * length errors.old }
     ensures blocks { blocks.new ≡ baked_blocks groups.now (length errors.old) }
     ensures errors { errors.new ≡ baked_errors groups.now (length errors.old) }
 {
-    let mut k: usize = 0;
-    while k < errors.len() {
+    for (k, error) in errors.iter_mut().enumerate() {
         let from = k * 48;
-        let end = from + 48;
         let at = k * 16;
-        let past = at + 16;
-        errors[k] = bake(&groups[from..end], &mut blocks[at..past]);
-        k += 1;
+        *error = bake(&groups[from..from + 48], &mut blocks[at..at + 16]);
     }
 }

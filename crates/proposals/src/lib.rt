@@ -2,33 +2,31 @@
 #![tactic(auto)]
 
 ghost use Rattle.std.specs.Prelude.{◌≡◌, map, ◌*◌, length};
+ghost use Rattle.refusals.specs.Numbers.{declined};
 ghost use Rattle.chooser.specs.OfferCall.{offer_refusal};
 ghost use Rattle.chooser.specs.Calls.{after};
 ghost use Rattle.proposals.specs.Offers.{offers};
 ghost use Rattle.proposals.specs.Records.{candidates_in};
 
 use crate::records::candidate;
-use chooser::Chooser;
+use chooser::{Chooser, Refusal};
 
 pub mod baking;
 pub mod built_in;
 pub mod records;
 
-// Offers the candidates of records in order, and writes the refusal of each. Requires sixteen bytes of records for each refusal.
-pub fn offer_records(ch: Chooser, records: &[u8], refusals: &mut [u8]) -> Chooser
-    requires { length records.now ≡ 16 * length refusals.old }
-    ensures answer { result ≡ after ch (offers (candidates_in records.now (length refusals.old))) }
-    ensures part { refusals.new ≡ map offer_refusal (candidates_in records.now (length refusals.old)) }
+// Offers the candidates of records in order, and writes the answer of each. Requires sixteen bytes of records for each answer.
+pub fn offer_records(ch: Chooser, records: &[u8], answers: &mut [Result<(), Refusal>]) -> Chooser
+    requires { length records.now ≡ 16 * length answers.old }
+    ensures answer { result ≡ after ch (offers (candidates_in records.now (length answers.old))) }
+    ensures part { map declined answers.new ≡ map offer_refusal (candidates_in records.now (length answers.old)) }
 {
     let mut held = ch;
-    let mut k: usize = 0;
-    while k < refusals.len() {
+    for (k, answer) in answers.iter_mut().enumerate() {
         let at = k * 16;
-        let end = at + 16;
-        let offered = held.offer(candidate(&records[at..end]));
-        refusals[k] = offered.refusal;
-        held = offered.chooser;
-        k += 1;
+        let (given, next) = held.offer(candidate(&records[at..at + 16]));
+        *answer = given;
+        held = next;
     }
     held
 }

@@ -1,5 +1,5 @@
 // Candidates as records of sixteen bytes.
-ghost use Rattle.std.specs.Prelude.{◌≡◌, ◌*◌, ◌≤◌, length};
+ghost use Rattle.std.specs.Prelude.{◌≡◌, ◌/◌, length};
 ghost use Rattle.bptc_block.specs.Fields.{p_bits_of};
 ghost use Rattle.proposals.specs.Records.{endpoint_in, endpoints_in, candidate_in, flags_good};
 
@@ -30,7 +30,7 @@ fn endpoints(bytes: &[u8]) -> [Rgb; 4]
     ]
 }
 
-// P-bits from their byte and the byte that says whether they are free.
+// P-bits from their byte and the byte that says whether they are free, as a file of proposals has them.
 fn p_bits(p: u8, free: u8) -> PBits
     ensures { result ≡ p_bits_of p free }
 {
@@ -53,16 +53,14 @@ pub fn candidate(bytes: &[u8]) -> Candidate
     }
 }
 
-// Whether the last byte of each record is 0 or 1. Requires as many whole records.
-pub fn flags_good(records: &[u8], n: usize) -> bool
-    requires { (length records.now ≡ n * 16) × (n ≤ 255) }
-    ensures { result ≡ flags_good records.now n }
+// Whether the last byte of each record is 0 or 1.
+pub fn flags_good(records: &[u8]) -> bool
+    ensures { result ≡ flags_good records.now (length records.now / 16) }
 {
-    let mut good = true;
-    let mut k: usize = 0;
-    while k < n {
-        good = good && records[k * 16 + 15] <= 1;
-        k += 1;
+    for record in records.chunks_exact(16) {
+        if record[15] > 1 {
+            return false;
+        }
     }
-    good
+    true
 }

@@ -1,26 +1,24 @@
 // The fields of a block, read by bit place, and numbers of four bytes.
 #![tactic(auto)]
 
-ghost use Rattle.std.specs.Prelude.{◌≡◌, ◌+◌, ◌*◌, ◌/◌, ◌%◌, ◌<◌, ◌≤◌, get_or, length, take, drop};
-ghost use Rattle.lists.specs.Rows.{sum};
+ghost use Rattle.std.specs.Prelude.{◌≡◌, ◌+◌, ◌*◌, ◌≤◌, ◌<◌, map, get_or, length, take, drop};
+ghost use Rattle.lists.specs.Rows.{up_from, sum};
 ghost use Rattle.lists.specs.Bits.{field_at, split};
 ghost use Rattle.lists.specs.Bytes.{number};
-ghost use Rattle.bptc.specs.Mode.{Known, mode_numbered};
 ghost use Rattle.bptc_block.specs.Fields.{index_width_by, widths, end_from};
 ghost use Rattle.bptc_block.specs.Packed.{fields_of};
 
 use bptc::Rgb;
 use bptc_block::Fields;
-use palette::colour::wide;
-use palette::{Mode1, Mode3};
+use palette::Mode;
 use partitions::anchor;
+use std::array;
 
 // Byte k of a block, and 0 past its end.
-fn byte(block: &[u8], k: usize) -> u32
-    ensures same { result ≡ get_or block.now k 0 }
-    ensures small { result < 256 }
+fn byte(block: &[u8], k: usize) -> u8
+    ensures { result ≡ get_or block.now k 0 }
 {
-    if k < block.len() { block[k] as u32 } else { 0 }
+    block.get(k).copied().unwrap_or(0)
 }
 
 // The number that four bytes make, the first lowest. Requires four of them.
@@ -28,7 +26,7 @@ pub fn number(bytes: &[u8]) -> u32
     requires { length bytes.now ≡ 4 }
     ensures { result ≡ number bytes.now }
 {
-    wide(bytes[0]) + wide(bytes[1]) * 256 + wide(bytes[2]) * 65536 + wide(bytes[3]) * 16777216
+    u32::from_le_bytes([bytes[0], bytes[1], bytes[2], bytes[3]])
 }
 
 // The field of `width` bits that begins at bit `at` of a block.
@@ -37,39 +35,9 @@ fn field(block: &[u8], at: u32, width: u32) -> u8
     requires few { width ≤ 8 }
     ensures { result ≡ field_at (number block.now) at width }
 {
-    let low = byte(block, (at / 8) as usize);
-    let high = byte(block, (at / 8 + 1) as usize);
-    (((high * 256 + low) >> (at % 8)) % (1u32 << width)) as u8
-}
-
-// The bits of a stored channel, by the mode's number.
-fn channel_bits(mode: u8) -> u32
-    ensures { (result ≡ (mode_numbered mode).channel_bits) × (result ≤ 7) }
-{
-    match mode {
-        1 => Mode1::CHANNEL_BITS,
-        _ => Mode3::CHANNEL_BITS,
-    }
-}
-
-// The number of p-bits.
-fn p_bits(mode: u8) -> u32
-    ensures { (result ≡ (mode_numbered mode).p_bits) × (result ≤ 4) }
-{
-    match mode {
-        1 => Mode1::P_BITS,
-        _ => Mode3::P_BITS,
-    }
-}
-
-// The bits of an index.
-fn index_bits(mode: u8) -> u32
-    ensures { (result ≡ (mode_numbered mode).index_bits) × ((0 < result) × (result ≤ 3)) }
-{
-    match mode {
-        1 => Mode1::INDEX_BITS,
-        _ => Mode3::INDEX_BITS,
-    }
+    let k = (at / 8) as usize;
+    let two = u16::from_le_bytes([byte(block, k), byte(block, k + 1)]);
+    ((two >> (at % 8)) % (1 << width)) as u8
 }
 
 // The stored endpoint k, its channels of `bits` bits from bit `at` on: four reds, four greens, four blues.
@@ -86,6 +54,15 @@ fn end_at(block: &[u8], at: u32, bits: u32, k: u32) -> Rgb
     }
 }
 
+// The four stored endpoints.
+fn ends_from(block: &[u8], at: u32, bits: u32) -> [Rgb; 4]
+    requires few { bits ≤ 7 }
+    requires inside { at + 12 * bits ≤ 128 }
+    ensures { result ≡ map (end_from (number block.now) at bits) (up_from 0 4) }
+{
+    array::from_fn(|k| end_at(block, at, bits, k as u32))
+}
+
 // The width of the index of pixel i.
 fn index_width(bits: u32, anchor: usize, i: usize) -> u32
     requires some { 0 < bits }
@@ -99,42 +76,33 @@ fn index_width(bits: u32, anchor: usize, i: usize) -> u32
 }
 
 // The sixteen indices, from bit `at` on.
-fn indices(mode: u8, block: &[u8], at: u32, partition: u8) -> [u8; 16]
+fn indices<M: Mode>(block: &[u8], at: u32, partition: u8) -> [u8; 16]
     requires inside { partition < 64 }
-    requires place { at ≡ sum (take 15 (widths (mode_numbered mode) partition)) }
-    ensures { result ≡ drop 15 (split (widths (mode_numbered mode) partition) (number block.now)) }
+    requires place { at ≡ sum (take 15 (widths M.mode partition)) }
+    ensures { result ≡ drop 15 (split (widths M.mode partition) (number block.now)) }
 {
-    let bits = index_bits(mode);
-    let place = anchor(partition as usize);
-    let mut out = [0u8; 16];
+    let place = anchor(usize::from(partition));
+    let mut out = [0; 16];
     let mut next = at;
-    let mut i: usize = 0;
-    while i < 16 {
-        let width = index_width(bits, place, i);
+    for i in 0..16 {
+        let width = index_width(M::INDEX_BITS, place, i);
         out[i] = field(block, next, width);
         next += width;
-        i += 1;
     }
     out
 }
 
-// The fields of a block. Requires mode 1 or 3.
-pub fn fields(mode: u8, block: &[u8]) -> Fields
-    requires { Known mode }
-    ensures { result ≡ fields_of (mode_numbered mode) block.now }
+// The fields of a block of a mode.
+pub fn fields<M: Mode>(block: &[u8]) -> Fields
+    ensures { result ≡ fields_of M.mode block.now }
 {
-    let bits = channel_bits(mode);
-    let own = p_bits(mode);
-    let at = mode as u32 + 7;
+    let bits = M::CHANNEL_BITS;
+    let at = u32::from(M::NUMBER) + 7;
     let partition = field(block, at - 6, 6);
-    let ends = [
-        end_at(block, at, bits, 0),
-        end_at(block, at, bits, 1),
-        end_at(block, at, bits, 2),
-        end_at(block, at, bits, 3),
-    ];
-    let p = field(block, at + 12 * bits, own);
-    let indices = indices(mode, block, at + 12 * bits + own, partition);
+    let ends = ends_from(block, at, bits);
+    let p_at = at + 12 * bits;
+    let p = field(block, p_at, M::P_BITS);
+    let indices = indices::<M>(block, p_at + M::P_BITS, partition);
     Fields {
         partition,
         ends,

@@ -4,19 +4,19 @@
 
 mod calls;
 mod groups;
-mod out;
 mod recording;
 mod tally;
 
 use std::io;
+use tally::Tally;
 
 // Replays standard input to its end.
 fn main(rt: HostRuntime) -> io::Result<()> {
-    let mut input = rt.reader();
-    let replayed = groups::replay(&mut input)?;
-    out::put_tally(&rt, replayed.tally)?;
-    if replayed.got != 0 {
-        out::say(&rt, b"input ends inside a group\n")?;
+    let mut tally = Tally::default();
+    let rest = groups::replay(&mut rt.reader(), &mut tally)?;
+    println!(rt; "{tally}")?;
+    if rest != 0 {
+        println!(rt; "input ends inside a group")?;
     }
     Ok(())
 }

@@ -1,10 +1,19 @@
-// The indices in a recording.
-ghost use Rattle.std.specs.Prelude.{◌≡◌, ◌<◌, length};
+// The parts of a recording, and the indices in it.
+ghost use Rattle.std.specs.Prelude.{◌≡◌, ◌+◌, ◌<◌, ◌≤◌, length};
 ghost use Rattle.rust_answers.specs.Recording.{index_in, indices_in};
 
+use std::array;
+
+// N bytes from one place on.
+pub(crate) fn part<const N: usize>(bytes: &[u8], at: usize) -> [u8; N]
+    requires { at + N ≤ length bytes.now }
+{
+    array::from_fn(|i| bytes[at + i])
+}
+
 // The index of a pixel in eight bytes: of a byte's two the lower half is the earlier.
-fn index(bytes: &[u8], pixel: usize) -> u8
-    requires { (length bytes.now ≡ 8) × (pixel < 16) }
+fn index(bytes: &[u8; 8], pixel: usize) -> u8
+    requires { pixel < 16 }
     ensures { result ≡ index_in bytes.now pixel }
 {
     let both = bytes[pixel / 2];
@@ -12,15 +21,8 @@ fn index(bytes: &[u8], pixel: usize) -> u8
 }
 
 // The sixteen indices of eight bytes.
-pub(crate) fn indices(bytes: &[u8]) -> [u8; 16]
-    requires { length bytes.now ≡ 8 }
+pub(crate) fn indices(bytes: &[u8; 8]) -> [u8; 16]
     ensures { result ≡ indices_in bytes.now }
 {
-    let mut list = [0u8; 16];
-    let mut i: usize = 0;
-    while i < 16 {
-        list[i] = index(bytes, i);
-        i += 1;
-    }
-    list
+    array::from_fn(|pixel| index(bytes, pixel))
 }

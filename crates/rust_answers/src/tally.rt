@@ -1,88 +1,87 @@
 // Counting answers, and the cells that the candidates lie in: mode 1 or 3, partition, p-bits fixed or free.
-ghost use Rattle.std.specs.Prelude.{◌≡◌, ◌≤◌, length};
+ghost use Rattle.std.specs.Prelude.{◌≡◌, ◌≤◌};
 ghost use Rattle.rust_answers.specs.Counting.{counted_of};
 
-use std::num::wrapping_add_u64;
+use std::fmt;
 
 // The cells: two modes, 64 partitions, fixed or free.
-pub(crate) const CELLS: usize = 256;
+const CELLS: usize = 256;
 
 // How many answers there were, and how many of them differ.
-#[derive(Clone, Copy)]
+#[derive(Clone, Copy, Default)]
 pub(crate) struct Count {
-    pub(crate) answers: u64,
-    pub(crate) differ: u64,
+    answers: u64,
+    differ: u64,
 }
 
-// The counts of each call, and 1 for each cell that was seen.
-#[derive(Clone, Copy)]
+impl Count {
+    // One answer more, which is the Rust's or differs. No run counts to 2 ^ 64.
+    pub(crate) fn add(&mut self, same: bool)
+        ensures { self.new ≡ counted_of self.old same }
+    {
+        self.answers = self.answers.wrapping_add(1);
+        if !same {
+            self.differ = self.differ.wrapping_add(1);
+        }
+    }
+}
+
+impl fmt::Display for Count {
+    fn fmt<W: fmt::Write>(&self, f: &mut fmt::Formatter<W>) -> fmt::Result {
+        write!(f, "{} answers, {} differ", self.answers, self.differ)
+    }
+}
+
+// Which cells were seen.
+#[derive(Clone, Copy, Default)]
+pub(crate) struct Cells([bool; CELLS]);
+
+impl Cells {
+    // Marks the cell of a candidate's record. Its bytes are matched as numbers: no call has checked them, and a candidate of another mode
+    // or partition lies in none.
+    pub(crate) fn mark(&mut self, record: &[u8; 16]) {
+        let [mode, partition, .., free] = *record;
+        let first = match mode {
+            1 => 0,
+            3 => CELLS / 2,
+            _ => return,
+        };
+        if partition < 64 && free < 2 {
+            self.0[first + usize::from(partition) * 2 + usize::from(free)] = true;
+        }
+    }
+
+    // How many cells were seen.
+    fn seen(&self) -> usize
+        ensures { result ≤ 256 }
+    {
+        self.0.iter().filter(|seen| **seen).count()
+    }
+}
+
+impl fmt::Display for Cells {
+    fn fmt<W: fmt::Write>(&self, f: &mut fmt::Formatter<W>) -> fmt::Result {
+        let seen = self.seen();
+        write!(f, "{seen} of {CELLS}")
+    }
+}
+
+// The counts of each call, and the cells.
+#[derive(Clone, Copy, Default)]
 pub(crate) struct Tally {
     pub(crate) finish: Count,
     pub(crate) measure: Count,
     pub(crate) pack: Count,
     pub(crate) choose: Count,
-    pub(crate) cells: [u8; CELLS],
+    pub(crate) cells: Cells,
 }
 
-// Nothing counted.
-pub(crate) fn none() -> Tally {
-    let zero = Count {
-        answers: 0,
-        differ: 0,
-    };
-    Tally {
-        finish: zero,
-        measure: zero,
-        pack: zero,
-        choose: zero,
-        cells: [0; CELLS],
+impl fmt::Display for Tally {
+    fn fmt<W: fmt::Write>(&self, f: &mut fmt::Formatter<W>) -> fmt::Result {
+        writeln!(f, "finish: {}", self.finish)?;
+        writeln!(f, "measure: {}", self.measure)?;
+        writeln!(f, "pack: {}", self.pack)?;
+        writeln!(f, "choose: {}", self.choose)?;
+        write!(f, "cells: {}", self.cells)
     }
-}
-
-// One answer more, which is the Rust's or differs. No run counts to 2 ^ 64.
-pub(crate) fn counted(n: Count, same: bool) -> Count
-    ensures { result ≡ counted_of n same }
-{
-    let answers = wrapping_add_u64(n.answers, 1);
-    if same {
-        return Count {
-            answers,
-            differ: n.differ,
-        };
-    }
-    Count {
-        answers,
-        differ: wrapping_add_u64(n.differ, 1),
-    }
-}
-
-// The cells with the one of a candidate's sixteen bytes marked. A candidate of another mode or partition lies in none.
-pub(crate) fn marked(mut cells: [u8; CELLS], candidate: &[u8]) -> [u8; CELLS]
-    requires { length candidate.now ≡ 16 }
-{
-    let mode = candidate[0];
-    let partition = candidate[1];
-    let free = candidate[15];
-    if (mode == 1 || mode == 3) && partition < 64 && free < 2 {
-        let at = (mode / 2 % 2) as usize * 128
-            + (partition % 64) as usize * 2
-            + (free % 2) as usize;
-        cells[at] = 1;
-    }
-    cells
-}
-
-// How many cells are marked.
-pub(crate) fn seen(cells: &[u8; CELLS]) -> u64
-    ensures { result ≤ 256 }
-{
-    let mut n: u64 = 0;
-    let mut i: usize = 0;
-    while i < CELLS {
-        if cells[i] != 0 {
-            n += 1;
-        }
-        i += 1;
-    }
-    n
 }

@@ -1,112 +1,137 @@
--- Laws of a number's decimal text: it is what `io` writes, it is all digits, and it stands for the number.
-use Prim.Native.Nat.{ℕ, zero, suc, ◌+◌, ◌-◌, ◌/◌, ◌%◌, ◌^◌, ◌<◌, ◌≤◌}
-use native.Mathlib.Nat.{pow-suc, one-le-pow}
+-- Laws of a number's decimal text: it is what std's `Display` writes, it is all digits, and it stands for the number.
+use Prim.Native.Nat.{ℕ, suc, ◌+◌, ◌^◌, ◌<◌, ◌≤◌}
+use native.Mathlib.Numerals.{one-add}
 use native.Mathlib.Omega.{arith}
-use mathlib.Core.Path.{◌≡◌, refl}
+use mathlib.Core.Path.{◌≡◌, refl, sym}
 use mathlib.Core.Bool.{Bool, true, false}
-use mathlib.Core.List.{[], ◌∷◌, ◌++◌}
-use lib.Dec.{lit<, ltb}
-use lib.ListN.{length, length-append}
-use borrow.Author.Tests.{ltb-true, ltb-false, lt-ltb, le-ltb, le-leb, eq-eqb, ne_eqb}
+use mathlib.Core.List.{List, [], ◌∷◌}
+use lib.Dec.{leb, ltb, eqb}
+use lib.ListN.{length, take}
+use borrow.Author.Rules.{rules}
+use borrow.Author.Tests.{leb-true, le-leb, lt-ltb, le-ltb, eq-eqb, ne_eqb}
+use Rattle.std.specs.Prelude.{Option, Some, None, Result, Ok, Err, if◌then◌else◌, ◌&&◌}
+use Rattle.std.specs.Char.{is_ascii_digit}
+use Rattle.std.specs.Int.{IsInRange}
+use Rattle.std.specs.Fmt.{decimal}
+use Rattle.std.specs.Result.{OkIff, result_ok}
+use Rattle.std.specs.Str.Parse.{ParsesUnsigned}
+use Rattle.std.specs.Str.{IsUtf8}
+use Rattle.std.proofs.lemmas.Str.{IsUtf8-from_ascii}
+use Rattle.std.proofs.lemmas.Str.Parse.{IsNumeralModel, numerals_by_fold, parse_digits, digits_value_short}
+use Rattle.std.proofs.lemmas.Fmt.{AppendsLastDigit, decimal_from_appends, length-decimal-le, decimal_nonempty, digits_decimal, digits_value-decimal, IsAscii-from_digits}
 use Rattle.lists.specs.Tests.{pick}
-use Rattle.text.specs.declared.decimal.Parsed.TheVariants.{Number}
-use Rattle.text.specs.Runs.{run}
 use Rattle.text.specs.Line.{decimal_in, decimal_of}
-use Rattle.text.specs.Decimal.{is_digit, value_from, value_of, number_in}
-use Rattle.text.proofs.RunPlaces.{run_append}
-use Rattle.text.proofs.DecimalValue.{value_append}
-use Rattle.io.specs.Digits.{last_digits, IsDigitCount}
+use Rattle.text.specs.Decimal.{digits_in, value_from, value_of, number_in}
 
--- a number's tenth has one digit less
-tenth_below : (k n : ℕ) → n < 10 ^ suc k → n / 10 < 10 ^ k
-tenth_below k n h = omega (arith, pow-suc 10 k)
+-- a text that is all digits
+abbrev pub AllDigits : List ℕ → Type 0
+AllDigits text = digits_in text ≡ length text
 
--- a number of two digits and more
-at_least : (n r : ℕ) → IsDigitCount 10 1 n (suc (suc r)) → 10 ^ suc r ≤ n
-at_least n r f =
-    let e : suc (suc r) - 1 ≡ suc r = omega arith in
-    rw e at (f.2 (omega arith))
-
--- it is ten at least
-at-least_ten : (n r : ℕ) → IsDigitCount 10 1 n (suc (suc r)) → 10 ≤ n
-at-least_ten n r f = omega (arith, at_least n r f, pow-suc 10 r, one-le-pow r 10 (lit< tt))
-
--- its tenth
-fewest_tenth : (n r : ℕ) → IsDigitCount 10 1 n (suc (suc r)) → IsDigitCount 10 1 (n / 10) (suc r)
-fewest_tenth n r f =
-    let e : suc r - 1 ≡ r = omega arith in
-    (omega arith, tenth_below (suc r) n f.1, λ _. rw e (omega (arith, at_least n r f, pow-suc 10 r)))
-
--- the fewest digits of a number, as `io` writes them, are its decimal text
-pub fewest_digits : (k n r : ℕ) → n < 10 ^ suc k → IsDigitCount 10 1 n r → last_digits 10 r n ≡ decimal_in (suc k) n
-fewest_digits k n zero h f = absurd (omega (arith, f.0))
-fewest_digits k n (suc zero) h f =
-    let l : n < 10 = omega (arith, f.1) in
-    let e : n % 10 ≡ n = omega arith in
-    rw (e, lt-ltb n 10 l)
-fewest_digits zero n (suc (suc r)) h f = absurd (omega (arith, at-least_ten n r f))
-fewest_digits (suc k) n (suc (suc r)) h f =
-    let l : 10 ≤ n = at-least_ten n r f in
-    let d : n % 10 < 10 = omega arith in
-    rw (le-ltb n 10 l, lt-ltb (n % 10) 10 d, fewest_digits k (n / 10) (suc r) (tenth_below (suc k) n h) (fewest_tenth n r f))
-
--- the code of a digit
-digit_code : (d : ℕ) → d < 10 → is_digit (48 + d) ≡ true
-digit_code d h =
-    let low : 48 ≤ 48 + d = omega arith in
-    let high : 48 + d ≤ 57 = omega arith in
-    rw (le-ltb (48 + d) 48 low, le-leb (48 + d) 57 high)
-
--- the text is all digits
-pub decimal_digits : (k n : ℕ) → run is_digit (decimal_in k n) ≡ length (decimal_in k n)
-decimal_digits zero n = refl
-decimal_digits (suc k) n = go (ltb n 10) refl (decimal_digits k (n / 10))
+-- its first digit, and the others
+digit_parts : (b : ℕ) (bs : List ℕ) → AllDigits (b ∷ bs) → IsInRange 48 57 b × AllDigits bs
+digit_parts b bs e = go (leb 48 b) (leb b 57) refl refl e
   where
-    go : (t : Bool) → ltb n 10 ≡ t → run is_digit (decimal_in k (n / 10)) ≡ length (decimal_in k (n / 10)) →
-        run is_digit (pick t ((48 + n) ∷ []) (decimal_in k (n / 10) ++ ((48 + n % 10) ∷ [])))
-        ≡ length (pick t ((48 + n) ∷ []) (decimal_in k (n / 10) ++ ((48 + n % 10) ∷ [])))
-    go true l ih = rw (digit_code n (ltb-true n 10 l))
-    go false l ih =
-        rw (run_append is_digit (decimal_in k (n / 10)) ((48 + n % 10) ∷ []) ih, length-append, digit_code (n % 10) (omega arith))
+    go : (t u : Bool) → leb 48 b ≡ t → leb b 57 ≡ u → (if t && u then 1 + digits_in bs else 0) ≡ suc (length bs) →
+        IsInRange 48 57 b × AllDigits bs
+    go true true l h e = ((leb-true _ _ l, leb-true _ _ h), omega arith)
+    go true false l h e = absurd (omega arith)
+    go false u l h e = absurd (omega arith)
 
--- it is not empty
-pub decimal-some : (k n : ℕ) → 0 < length (decimal_in (suc k) n)
-decimal-some k n = go (ltb n 10)
-  where
-    go : (t : Bool) → 0 < length (pick t ((48 + n) ∷ []) (decimal_in k (n / 10) ++ ((48 + n % 10) ∷ [])))
-    go true = omega arith
-    go false = rw length-append (omega arith)
+-- one more in front
+digit_more : (b : ℕ) (bs : List ℕ) → IsInRange 48 57 b → AllDigits bs → AllDigits (b ∷ bs)
+digit_more b bs h e = rw (le-leb _ _ h.0, le-leb _ _ h.1) (omega arith)
 
--- it has no more digits than the number
-pub decimal-length : (f k n : ℕ) → n < 10 ^ suc k → length (decimal_in f n) ≤ suc k
-decimal-length zero k n h = omega arith
-decimal-length (suc f) k n h = go (ltb n 10) refl k h (decimal-length f)
-  where
-    go : (t : Bool) → ltb n 10 ≡ t → (k : ℕ) → n < 10 ^ suc k → ((j m : ℕ) → m < 10 ^ suc j → length (decimal_in f m) ≤ suc j) →
-        length (pick t ((48 + n) ∷ []) (decimal_in f (n / 10) ++ ((48 + n % 10) ∷ []))) ≤ suc k
-    go true l k h ih = omega arith
-    go false l zero h ih = absurd (omega (arith, ltb-false n 10 l))
-    go false l (suc k) h ih = rw length-append (omega (arith, ih k (n / 10) (tenth_below (suc k) n h)))
+-- the texts of digits, and the numbers that they stand for, in std's words
+pub numerals : IsNumeralModel AllDigits (value_from 0)
+numerals = numerals_by_fold AllDigits (record { empty = refl; parts = digit_parts; more = digit_more }) value_from (search rules)
 
--- it stands for the number
-pub decimal-value : (k n : ℕ) → n < 10 ^ k → value_from 0 (decimal_in k n) ≡ n
-decimal-value zero n h = omega arith
-decimal-value (suc k) n h = go (ltb n 10) (decimal-value k (n / 10) (tenth_below k n h))
+-- the decimal text of a number is what std writes
+pub decimal_written : (n : ℕ) → n < 2 ^ 64 → decimal_of n ≡ decimal n
+unfolding decimal_of
+decimal_written n h =
+    let last : AppendsLastDigit decimal_in = record { one = λ k n l. rw (lt-ltb n 10 l); more = λ k n l. rw (le-ltb n 10 l) } in
+    decimal_from_appends decimal_in last 20 n h (length-decimal-le 20 n (omega arith) (omega arith) h)
+
+module _ (n : ℕ) (h : n < 2 ^ 64) where
+  -- it is all digits
+  pub decimal_digits : AllDigits (decimal_of n)
+  decimal_digits = rw (decimal_written n h) (digits_decimal numerals n h)
+
+  -- it is not empty
+  pub decimal-some : 0 < length (decimal_of n)
+  decimal-some = rw (decimal_written n h) (decimal_nonempty n h)
+
+  -- it has no more digits than the number
+  pub decimal-length : (k : ℕ) → 0 < k → n < 10 ^ k → length (decimal_of n) ≤ k
+  decimal-length k l m = rw (decimal_written n h) (length-decimal-le k n l m h)
+
+  -- it stands for the number
+  pub decimal-value : value_of (decimal_of n) ≡ n
+  unfolding value_of
+  decimal-value = rw (decimal_written n h) (digits_value-decimal numerals n h)
+
+module _ (text : List ℕ) where
+  -- what is longer than eighteen bytes is no number
+  pub number_long : 18 < length text → number_in text ≡ None
+  unfolding number_in
+  number_long h =
+      let some : length text ≡ 0 → ⊥ = λ e. omega arith in
+      rw (ne_eqb _ _ some, lt-ltb _ _ h)
+
+  -- nor is what is not all digits
+  pub number_other : (AllDigits text → ⊥) → number_in text ≡ None
+  unfolding number_in
+  number_other h = rw (ne_eqb _ _ h) (go (eqb (length text) 0) (ltb 18 (length text)))
+    where
+      go : (t u : Bool) → pick {A = Option ℕ} t None (pick {A = Option ℕ} u None None) ≡ None
+      go true u = refl
+      go false true = refl
+      go false false = refl
+
+  module _ (all : AllDigits text) where
+    -- digits are text
+    pub digits_text : IsUtf8 text
+    digits_text = IsUtf8-from_ascii text (IsAscii-from_digits text (numerals.to text all))
+
+    -- up to eighteen are the number that they stand for
+    module _ (few : length text ≤ 18) where
+      pub number_digits : 0 < length text → number_in text ≡ Some (value_of text)
+      unfolding number_in
+      number_digits h =
+          let some : length text ≡ 0 → ⊥ = λ e. omega arith in
+          rw (ne_eqb _ _ some, le-ltb _ _ few, eq-eqb _ _ all)
+
+      -- and none of them are no number
+      pub number_none : length text ≡ 0 → number_in text ≡ None
+      unfolding number_in
+      number_none h = rw (eq-eqb _ _ h)
+
+      -- std reads the same
+      pub number_parsed : {E : Type 0} (r : Result ℕ E) → ParsesUnsigned 64 10 text r → result_ok r ≡ number_in text
+      unfolding value_of
+      number_parsed {E} r parsed = go r (parse_digits numerals 64 text r parsed all)
+        where
+          go : (r : Result ℕ E) → OkIff r ((0 < length text) × (value_from 0 text < 2 ^ 64)) (value_from 0 text) →
+              result_ok r ≡ number_in text
+          go (Ok x) p = rw (p.1, number_digits p.0.0)
+          go (Err e) p =
+              let small : value_from 0 text < 10 ^ 18 = digits_value_short numerals text 18 all few in
+              let none : 0 < length text → ⊥ = λ h. p (h, omega arith) in
+              sym (number_none (omega arith))
+
+-- the digits at the front of a text are all digits
+pub digits_alone : (text : List ℕ) → AllDigits (take (digits_in text) text)
+digits_alone [] = refl
+digits_alone (b ∷ bs) = go (is_ascii_digit b) refl (digits_alone bs)
   where
-    go : (t : Bool) → value_from 0 (decimal_in k (n / 10)) ≡ n / 10 →
-        value_from 0 (pick t ((48 + n) ∷ []) (decimal_in k (n / 10) ++ ((48 + n % 10) ∷ []))) ≡ n
-    go true ih = omega arith
-    go false ih = rw (value_append 0 (decimal_in k (n / 10)) ((48 + n % 10) ∷ []), ih) (omega arith)
+    go : (t : Bool) → is_ascii_digit b ≡ t → AllDigits (take (digits_in bs) bs) →
+        AllDigits (take (if t then 1 + digits_in bs else 0) (b ∷ bs))
+    go true d ih = rw (one-add, d, ih) (omega arith)
+    go false d ih = refl
 
 -- the number that is read from the decimal text of n is n
-pub number-decimal : (n : ℕ) → n < 10 ^ 18 → number_in (decimal_of n) ≡ Number n
-unfolding number_in decimal_of value_of
+pub number-decimal : (n : ℕ) → n < 10 ^ 18 → number_in (decimal_of n) ≡ Some n
 number-decimal n h =
-    let some : length (decimal_in 20 n) ≡ 0 → ⊥ = λ e. omega (arith, decimal-some 19 n) in
-    let twenty : n < 10 ^ 20 = omega arith in
-    rw (
-      ne_eqb _ _ some,
-      le-ltb 18 (length (decimal_in 20 n)) (decimal-length 20 17 n h),
-      eq-eqb _ _ (decimal_digits 20 n),
-      decimal-value 20 n twenty,
-    )
+    let small : n < 2 ^ 64 = omega arith in
+    let few = decimal-length n small 18 (omega arith) h in
+    rw (number_digits (decimal_of n) (decimal_digits n small) few (decimal-some n small), decimal-value n small)

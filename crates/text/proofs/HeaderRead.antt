@@ -1,20 +1,22 @@
 -- The header that is written for a picture is read again.
-use Prim.Native.Nat.{ℕ, ◌+◌, ◌-◌, ◌^◌, ◌<◌, ◌≤◌}
+use Prim.Native.Nat.{ℕ, ◌+◌, ◌^◌, ◌<◌, ◌≤◌}
+use native.Mathlib.Numerals.{one-add}
 use native.Mathlib.Omega.{arith}
 use mathlib.Core.Path.{◌≡◌, refl, sym, ap, ◌∙◌}
 use mathlib.Core.Bool.{true, false}
 use mathlib.Core.List.{List, [], ◌∷◌, ◌++◌, append_assoc, append-nil}
 use lib.ListN.{length, get_or, drop, length-append}
-use lib.Seq.{drop-append_seam, drop-append-add, take-append_seam, get_or-append_seam}
-use borrow.Author.Tests.{ne_eqb, lt-ltb, le-ltb, le-leb, lt-leb}
-use Rattle.text.specs.Runs.{run, run_end}
+use lib.Seq.{drop-append_seam, take-append_seam, get_or-append_seam}
+use borrow.Author.Tests.{eq-eqb, ne_eqb, lt-ltb, le-ltb, le-leb, lt-leb}
+use Rattle.std.specs.Prelude.{Some, Ok}
+use Rattle.std.specs.Char.{is_ascii_digit}
+use Rattle.std.proofs.lemmas.List.Folds.{prefix_len-append}
+use Rattle.std.proofs.lemmas.Str.Parse.{digit_at}
 use Rattle.text.specs.Line.{decimal_of}
-use Rattle.text.specs.Decimal.{is_digit, value_of}
-use Rattle.text.specs.Ppm.{in_gap, in_comment, gap_in, gap_end, small_value, field_at, size_fits}
-use Rattle.text.specs.Ppm.{starts_p6, mistake_of, header_by, header_of, header_text}
-use Rattle.text.proofs.RunPlaces.{run_append}
-use Rattle.text.proofs.DecimalValue.{codes_at}
-use Rattle.text.proofs.DecimalText.{decimal_digits, decimal-some, decimal-length, decimal-value}
+use Rattle.text.specs.Decimal.{digits_in}
+use Rattle.text.specs.Ppm.{in_gap, in_comment, gap_in, small_value, field_in, size_fits}
+use Rattle.text.specs.Ppm.{starts_p6, size_in, pixels_in, header_of, header_text}
+use Rattle.text.proofs.DecimalText.{AllDigits, numerals, decimal_digits, decimal-some, decimal-length, decimal-value}
 
 -- a digit ends a gap
 digit_stops : (b : ℕ) → 48 ≤ b → in_gap false b ≡ false
@@ -26,67 +28,46 @@ digit_stops b h =
     rw (ne_eqb b 35 mark, ne_eqb b 32 space, le-ltb b 9 low, lt-leb b 13 high)
 
 -- a text of digits has no gap in front
-gap_digits : (xs rest : List ℕ) → run is_digit xs ≡ length xs → 0 < length xs → gap_in false (xs ++ rest) ≡ 0
+gap_digits : (xs rest : List ℕ) → AllDigits xs → 0 < length xs → gap_in false (xs ++ rest) ≡ 0
 gap_digits [] rest e h = absurd (omega arith)
-gap_digits (x ∷ xs) rest e h = rw (digit_stops x (codes_at (x ∷ xs) 0 e h).0)
+gap_digits (x ∷ xs) rest e h = rw (digit_stops x (digit_at (x ∷ xs) 0 (numerals.to (x ∷ xs) e) h).0)
 
 -- a number of at most nine digits is read from its text
 small_decimal : (n : ℕ) → n < 10 ^ 9 → small_value (decimal_of n) ≡ n
-unfolding small_value decimal_of value_of
+unfolding small_value
 small_decimal n h =
-    let twenty : n < 10 ^ 20 = omega arith in
-    rw (le-ltb 9 (length (decimal_of n)) (decimal-length 20 8 n h), decimal-value 20 n twenty)
-
--- it has a digit
-some_digit : (n : ℕ) → 0 < length (decimal_of n)
-unfolding decimal_of
-some_digit n = decimal-some 19 n
+    let small : n < 2 ^ 64 = omega arith in
+    rw (le-ltb 9 (length (decimal_of n)) (decimal-length n small 9 (omega arith) h), decimal-value n small)
 
 -- a number behind one white space and before a byte that is no digit
-module _ (front rest : List ℕ) (s n e : ℕ)
-    (space : in_gap false s ≡ true) (out : in_comment false s ≡ false) (other : is_digit e ≡ false) where
-  -- what stands behind the white space
-  behind_gap : drop (length front + 1) (front ++ (s ∷ (decimal_of n ++ (e ∷ rest)))) ≡ decimal_of n ++ (e ∷ rest)
-  behind_gap = drop-append-add front (s ∷ (decimal_of n ++ (e ∷ rest))) 1
+module _ (rest : List ℕ) (s n e : ℕ)
+    (space : in_gap false s ≡ true) (out : in_comment false s ≡ false) (other : is_ascii_digit e ≡ false) (small : n < 10 ^ 9) where
+  -- it fits 64 bits
+  fits : n < 2 ^ 64
+  fits = omega arith
 
-  -- the gap ends before the number
-  gap_place : gap_end (front ++ (s ∷ (decimal_of n ++ (e ∷ rest)))) (length front) ≡ length front + 1
-  unfolding decimal_of
-  gap_place =
-      rw (
-        drop-append_seam front (s ∷ (decimal_of n ++ (e ∷ rest))),
-        space,
-        out,
-        gap_digits (decimal_of n) (e ∷ rest) (decimal_digits 20 n) (decimal-some 19 n),
-      )
+  -- the gap is the white space
+  gap_one : gap_in false (s ∷ (decimal_of n ++ (e ∷ rest))) ≡ 1
+  gap_one = rw (space, out, gap_digits (decimal_of n) (e ∷ rest) (decimal_digits n fits) (decimal-some n fits))
 
-  -- the digits end with the number
-  digits-place :
-      run_end is_digit (front ++ (s ∷ (decimal_of n ++ (e ∷ rest)))) (length front + 1) ≡ length front + 1 + length (decimal_of n)
-  unfolding decimal_of
-  digits-place = rw (behind_gap, run_append is_digit (decimal_of n) (e ∷ rest) (decimal_digits 20 n), other) (omega arith)
+  -- the digits behind it are the number's
+  digits-number : digits_in (decimal_of n ++ (e ∷ rest)) ≡ length (decimal_of n)
+  digits-number =
+      rw (prefix_len-append is_ascii_digit (decimal_of n) (e ∷ rest), eq-eqb _ _ (decimal_digits n fits), other) (omega arith)
 
   -- it is the number that is read there
-  field-decimal : (bytes : List ℕ) → bytes ≡ front ++ (s ∷ (decimal_of n ++ (e ∷ rest))) → n < 10 ^ 9 →
-      field_at bytes (length front) ≡ record { found = true; value = n; end = length (front ++ (s ∷ decimal_of n)) }
-  unfolding field_at
-  field-decimal bytes same small =
-      let some = some_digit n in
-      let after : length front < length front + 1 = omega arith in
-      let last : length front + 1 < length front + 1 + length (decimal_of n) = omega arith in
-      let count : length front + 1 + length (decimal_of n) - (length front + 1) ≡ length (decimal_of n) = omega arith in
-      let end : length (front ++ (s ∷ decimal_of n)) ≡ length front + 1 + length (decimal_of n) = rw length-append (omega arith) in
+  field-decimal : (bytes : List ℕ) → bytes ≡ s ∷ (decimal_of n ++ (e ∷ rest)) →
+      field_in bytes ≡ Some (record { value = n; len = length (s ∷ decimal_of n) })
+  unfolding field_in
+  field-decimal bytes same =
       rw (
         same,
-        end,
-        gap_place,
-        digits-place,
-        behind_gap,
-        count,
+        gap_one,
+        digits-number,
+        lt-ltb 0 (length (decimal_of n)) (decimal-some n fits),
         take-append_seam (decimal_of n) (e ∷ rest),
         small_decimal n small,
-        lt-ltb _ _ after,
-        lt-ltb _ _ last,
+        one-add,
       )
 
 -- a size from 1 to 16384
@@ -140,13 +121,22 @@ module _ (w h : ℕ) where
 
 -- what is written for a picture of any size is read again, whatever follows
 pub header_read : (w h : ℕ) (rest : List ℕ) → 1 ≤ w → w ≤ 16384 → 1 ≤ h → h ≤ 16384 →
-    header_of (header_text w h ++ rest) ≡ record { mistake = 0; width = w; height = h; pixels = length (header_text w h) }
-unfolding header_of header_by mistake_of
+    header_of (header_text w h ++ rest) ≡ Ok (record { width = w; height = h; pixels = length (header_text w h) })
+unfolding header_of size_in pixels_in
 header_read w h rest wide narrow high low =
     let bytes = header_text w h ++ rest in
     let named : starts_p6 bytes ≡ true = rw (by_width w h rest) in
-    let first = field-decimal to_width _ 10 w 32 refl refl refl bytes (by_width w h rest) (omega arith) in
-    let second = field-decimal (to_height w) _ 32 h 10 refl refl refl bytes (by_height w h rest) (omega arith) in
-    let third = field-decimal (to_maxval w h) rest 10 255 10 refl refl refl bytes (by_maxval w h rest) (omega arith) in
-    let last : get_or bytes (length (to_end w h)) 0 ≡ 10 = rw (by_end w h rest) (get_or-append_seam (to_end w h) 10 rest 0) in
-    rw (named, first, second, third, size_fits_lem w wide narrow, size_fits_lem h high low, last, header-length w h)
+    let to_h : 2 + length (10 ∷ decimal_of w) ≡ length (to_height w) = omega arith in
+    let to_m : length (to_height w) + length (32 ∷ decimal_of h) ≡ length (to_maxval w h) = sym (length-append (to_height w) (32 ∷ decimal_of h)) in
+    let first = field-decimal _ 10 w 32 refl refl refl (omega arith) (drop 2 bytes) (ap (drop 2) (by_width w h rest)) in
+    let second = field-decimal _ 32 h 10 refl refl refl (omega arith) (drop (length (to_height w)) bytes)
+    (ap (drop (length (to_height w))) (by_height w h rest) ∙ drop-append_seam (to_height w) _) in
+    let behind : drop (length (to_maxval w h)) bytes ≡ 10 ∷ (decimal_of 255 ++ (10 ∷ rest)) =
+    rw (by_maxval w h rest) (drop-append_seam (to_maxval w h) _) in
+    let third = field-decimal rest 10 255 10 refl refl refl (omega arith) (drop (length (to_maxval w h)) bytes) behind in
+    let last : get_or (drop (length (to_maxval w h)) bytes) (length (10 ∷ decimal_of 255)) 0 ≡ 10 =
+    rw behind (get_or-append_seam (10 ∷ decimal_of 255) 10 rest 0) in
+    let all : length (to_maxval w h) + (length (10 ∷ decimal_of 255) + 1) ≡ length (header_text w h) =
+    omega (arith, header-length w h, length-append (to_maxval w h) (10 ∷ decimal_of 255)) in
+    rw (named, first, size_fits_lem w wide narrow, to_h, second, size_fits_lem h high low, to_m, third, last)
+    (ap (λ n. Ok (record { width = w; height = h; pixels = n })) all)

@@ -1,9 +1,6 @@
-pub mod RunPlaces
-pub mod PutText
-pub mod WordPlaces
-pub mod DecimalValue
+pub mod WordList
 pub mod DecimalText
+pub mod SmallValue
 pub mod PiecesText
-pub mod HeaderSizes
 pub mod HeaderRead
 pub mod Worked

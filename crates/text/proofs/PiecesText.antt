@@ -1,40 +1,68 @@
--- Laws of texts that are put into an empty buffer piece by piece.
-use Prim.Native.Nat.{ℕ, ◌/◌, ◌^◌, ◌<◌, ◌≤◌}
+-- Laws of texts that are put together piece by piece.
+use Prim.Native.Nat.{ℕ, ◌+◌, ◌/◌, ◌%◌, ◌^◌, ◌<◌, ◌≤◌}
 use native.Mathlib.Omega.{arith}
 use mathlib.Core.Path.{◌≡◌}
-use mathlib.Core.List.{List, [], ◌∷◌}
+use mathlib.Core.List.{List, [], ◌∷◌, ◌++◌, append_assoc}
 use lib.ListN.{length, length-append}
-use Rattle.text.specs.Line.{Put, decimal_of, places_of, thousandths_of}
+use borrow.Author.Tests.{lt-ltb, le-leb}
+use Rattle.text.specs.Line.{with_text, decimal_of, thousandths_of}
 use Rattle.text.specs.Ppm.{header_text}
-use Rattle.text.proofs.PutText.{Holds, holds-none, holds-put}
 use Rattle.text.proofs.DecimalText.{decimal-length}
+
+-- a text that fits
+put_fits : (most : ℕ) (line text : List ℕ) → length line + length text ≤ most → with_text most line text ≡ line ++ text
+put_fits most line text h = rw (le-leb _ _ h)
 
 -- a number of 64 bits has at most twenty digits
 digits_twenty : (n : ℕ) → n < 2 ^ 64 → length (decimal_of n) ≤ 20
-unfolding decimal_of
-digits_twenty n h = decimal-length 20 19 n (omega arith)
+digits_twenty n h = decimal-length n h 20 (omega arith) (omega arith)
 
--- a number of thousandths: its whole part and its places
-module _ {b₀ b₁ b₂ : List ℕ} {whole end : ℕ} (n : ℕ) (small : n < 2 ^ 64) (room : length b₀ ≡ 24) where
-  pub thousandths_held : Put (decimal_of (n / 1000)) 0 whole b₀ b₁ → Put (places_of n) whole end b₁ b₂ →
-      Holds (thousandths_of n) end b₂
-  unfolding thousandths_of
-  thousandths_held p q =
-      let d = digits_twenty (n / 1000) (omega arith) in
-      holds-put (holds-put (holds-none b₀) (omega arith) p) (omega (arith, p.kept)) q
+-- a digit
+digit_text : (n : ℕ) → n < 10 → decimal_of n ≡ (48 + n) ∷ []
+unfolding decimal_of
+digit_text n h = rw (lt-ltb n 10 h)
+
+-- a number of thousandths: its whole part, the point and its places
+pub thousandths_put : (n : ℕ) → n < 2 ^ 64 →
+    with_text 24 (with_text 24 (with_text 24 (with_text 24 (with_text 24 [] (decimal_of (n / 1000))) (46 ∷ [])) (decimal_of (n / 100 % 10)))
+    (decimal_of (n / 10 % 10)))
+    (decimal_of (n % 10))
+    ≡ thousandths_of n
+unfolding thousandths_of
+thousandths_put n h =
+    let d = digits_twenty (n / 1000) (omega arith) in
+    let whole = decimal_of (n / 1000) in
+    let tenths : ℕ = 48 + n / 100 % 10 in
+    let hundredths : ℕ = 48 + n / 10 % 10 in
+    rw (
+      digit_text (n / 100 % 10) (omega arith),
+      digit_text (n / 10 % 10) (omega arith),
+      digit_text (n % 10) (omega arith),
+      put_fits 24 [] whole (omega arith),
+      put_fits 24 whole (46 ∷ []) (omega arith),
+      put_fits 24 (whole ++ (46 ∷ [])) (tenths ∷ []) (rw length-append (omega arith)),
+      put_fits 24 ((whole ++ (46 ∷ [])) ++ (tenths ∷ [])) (hundredths ∷ []) (simp length-append (omega arith)),
+      put_fits 24 (((whole ++ (46 ∷ [])) ++ (tenths ∷ [])) ++ (hundredths ∷ [])) ((48 + n % 10) ∷ []) (simp length-append (omega arith)),
+    ) (simp append_assoc)
 
 -- the header of a picture: its name, width, a space, height, and the end
-module _ {b₀ b₁ b₂ b₃ b₄ b₅ : List ℕ} {name first space second end : ℕ} (w h : ℕ) where
-  pub header-held : w < 2 ^ 64 → h < 2 ^ 64 → length b₀ ≡ 64 → Put (80 ∷ 54 ∷ 10 ∷ []) 0 name b₀ b₁ →
-      Put (decimal_of w) name first b₁ b₂ → Put (32 ∷ []) first space b₂ b₃ → Put (decimal_of h) space second b₃ b₄ →
-      Put (10 ∷ 50 ∷ 53 ∷ 53 ∷ 10 ∷ []) second end b₄ b₅ →
-      Holds (header_text w h) end b₅
-  unfolding header_text
-  header-held wide high room p q r s t =
-      let dw = digits_twenty w wide in
-      let dh = digits_twenty h high in
-      let one = holds-put (holds-none b₀) (omega arith) p in
-      let two = holds-put one (omega (arith, p.kept)) q in
-      let three = holds-put two (simp length-append (omega (arith, p.kept, q.kept))) r in
-      let four = holds-put three (simp length-append (omega (arith, p.kept, q.kept, r.kept))) s in
-      holds-put four (simp length-append (omega (arith, p.kept, q.kept, r.kept, s.kept))) t
+pub header_put : (w h : ℕ) → w < 2 ^ 64 → h < 2 ^ 64 →
+    with_text 64 (with_text 64 (with_text 64 (with_text 64 (with_text 64 [] (80 ∷ 54 ∷ 10 ∷ [])) (decimal_of w)) (32 ∷ [])) (decimal_of h))
+    (10 ∷ 50 ∷ 53 ∷ 53 ∷ 10 ∷ [])
+    ≡ header_text w h
+unfolding header_text
+header_put w h wide high =
+    let dw = digits_twenty w wide in
+    let dh = digits_twenty h high in
+    let name : List ℕ = 80 ∷ 54 ∷ 10 ∷ [] in
+    let first = name ++ decimal_of w in
+    let space = first ++ (32 ∷ []) in
+    let second = space ++ decimal_of h in
+    let one : length first ≤ 23 = rw length-append (omega arith) in
+    let two : length second ≤ 44 = rw length-append (rw length-append (omega arith)) in
+    rw (
+      put_fits 64 name (decimal_of w) (omega arith),
+      put_fits 64 first (32 ∷ []) (omega arith),
+      put_fits 64 space (decimal_of h) (rw length-append (omega arith)),
+      put_fits 64 second (10 ∷ 50 ∷ 53 ∷ 53 ∷ 10 ∷ []) (omega arith),
+    )

@@ -1,4 +1,3 @@
-pub mod Runs
 pub mod Line
 pub mod Decimal
 pub mod Words

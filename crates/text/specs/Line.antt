@@ -1,24 +1,10 @@
--- Text put into a lent buffer, and numbers as text.
-use Rattle.std.specs.Prelude.{ℕ, zero, suc, ◌+◌, ◌/◌, ◌%◌, min, ◌≡◌, Bool, List, [], ◌∷◌, ◌++◌, leb, ltb, length, take, drop}
+-- Text put together in fixed memory, and numbers as text.
+use Rattle.std.specs.Prelude.{ℕ, zero, suc, ◌+◌, ◌/◌, ◌%◌, List, [], ◌∷◌, ◌++◌, leb, ltb, length}
 use Rattle.lists.specs.Tests.{pick}
 
--- whether a text fits into a buffer at a place
-abbrev pub fits : List ℕ → List ℕ → ℕ → Bool
-fits text to at = leb (at + length text) (length to)
-
--- the place behind a text put at a place: where the text does not fit, the place itself, or the end where it lies beyond
-unfoldable pub put_end : List ℕ → List ℕ → ℕ → ℕ
-put_end text to at = pick (fits text to at) (at + length text) (min at (length to))
-
--- the buffer with the text at the place: unchanged where it does not fit
-unfoldable pub put_text : List ℕ → List ℕ → ℕ → List ℕ
-put_text text to at = pick (fits text to at) (take at to ++ text ++ drop (at + length text) to) to
-
--- what putting a text at a place answers and leaves in the buffer
-pub record Put (text : List ℕ) (at r : ℕ) (before after : List ℕ) : Type 0 where
-  pub answer : r ≡ put_end text before at
-  pub bytes : after ≡ put_text text before at
-  pub kept : length after ≡ length before
+-- a line of at most so many bytes with a text behind it: unchanged where the text does not fit
+abbrev pub with_text : ℕ → List ℕ → List ℕ → List ℕ
+with_text most line text = pick (leb (length line + length text) most) (line ++ text) line
 
 -- the decimal digits of a number of at most k, with no zero in front
 abbrev pub decimal_in : ℕ → ℕ → List ℕ

@@ -1,11 +1,12 @@
 -- The header of a binary PPM picture, Netpbm's P6.
-use Rattle.std.specs.Prelude.{ℕ, suc, ◌+◌, ◌-◌, ◌≤◌, Bool, true, false, not, List, [], ◌∷◌, ◌++◌, leb, ltb, eqb, length, take, drop, get_or}
+use Rattle.std.specs.Prelude.{ℕ, suc, ◌+◌, ◌≤◌, Bool, true, false, not, List, [], ◌∷◌, ◌++◌, leb, ltb, eqb, length, take, drop, get_or, Option, None, Some, Result, Ok, Err, codes}
 use Rattle.lists.specs.Tests.{pick}
-use Rattle.text.specs.declared.Header.{Header}
+use Rattle.text.specs.declared.ppm.Header.{Header}
+use Rattle.text.specs.declared.ppm.HeaderError.{HeaderError}
+use Rattle.text.specs.declared.ppm.HeaderError.TheVariants.{NoName, NoWidth, NoHeight, NoMaxval, WidthOutside, HeightOutside, OtherMaxval, NoPixels}
 use Rattle.text.specs.declared.ppm.Field.{Field}
-use Rattle.text.specs.Runs.{run_end}
 use Rattle.text.specs.Line.{decimal_of}
-use Rattle.text.specs.Decimal.{is_digit, value_of}
+use Rattle.text.specs.Decimal.{digits_in, value_of}
 
 -- whether a byte is white space: a space, or one of the codes 9 to 13
 abbrev pub is_space : ℕ → Bool
@@ -26,71 +27,74 @@ abbrev pub gap_in : Bool → List ℕ → ℕ
 gap_in comment [] = 0
 gap_in comment (b ∷ bs) = pick (in_gap comment b) (suc (gap_in (in_comment comment b) bs)) 0
 
--- the place behind the white space and comments at a place
-abbrev pub gap_end : List ℕ → ℕ → ℕ
-gap_end bs from = from + gap_in false (drop from bs)
-
 -- the number of at most nine digits, and 0 for more, which no size and no maxval is
 unfoldable pub small_value : List ℕ → ℕ
 small_value text = pick (ltb 9 (length text)) 0 (value_of text)
 
--- a number of a header, with its gap up to start and its digits up to end: missing where it lacks either
-abbrev pub field_of : List ℕ → ℕ → ℕ → ℕ → Field
-field_of bs from start end =
-    record {
-      found = pick (ltb from start) (ltb start end) false;
-      value = small_value (take (end - start) (drop start bs));
-      end = end;
-    }
+-- a number of a header by its gap and how many digits stand behind that: none where it lacks either
+abbrev pub field_of : List ℕ → ℕ → ℕ → Option Field
+field_of bs gap count =
+    pick (ltb 0 gap) (pick (ltb 0 count) (Some (record { value = small_value (take count (drop gap bs)); len = gap + count })) None) None
 
--- the number whose gap starts at a place
-unfoldable pub field_at : List ℕ → ℕ → Field
-field_at bs from = field_of bs from (gap_end bs from) (run_end is_digit bs (gap_end bs from))
-
--- a header with a mistake
-abbrev pub wrong_header : ℕ → Header
-wrong_header mistake = record { mistake = mistake; width = 1; height = 1; pixels = 0 }
+-- the number at the front, with its gap
+unfoldable pub field_in : List ℕ → Option Field
+field_in bs = field_of bs (gap_in false bs) (digits_in (drop (gap_in false bs) bs))
 
 -- whether a width or a height is 1 to 16384
 abbrev pub size_fits : ℕ → Bool
 size_fits n = pick (ltb n 1) false (leb n 16384)
 
--- the earlier of two mistakes in reading order, where 0 is none
-abbrev pub earlier : ℕ → ℕ → ℕ
-earlier a b = pick (eqb a 0) b a
+-- a width or a height, or its mistake: that it is missing, or that it is not 1 to 16384
+abbrev pub size_of : Option Field → HeaderError → HeaderError → Result Field HeaderError
+size_of None missing outside = Err missing
+size_of (Some f) missing outside = pick (size_fits f.value) (Ok f) (Err outside)
 
--- the mistake of a width or a height: that it is missing, or that it is not 1 to 16384
-abbrev pub size_mistake : Field → ℕ → ℕ → ℕ
-size_mistake f missing outside = pick f.found (pick (size_fits f.value) 0 outside) missing
+-- the one at the front
+unfoldable pub size_in : List ℕ → HeaderError → HeaderError → Result Field HeaderError
+size_in bs missing outside = size_of (field_in bs) missing outside
 
--- the mistake of the maxval: that it is missing, that it is not 255, or that no white space is behind it
-abbrev pub maxval_mistake : List ℕ → Field → ℕ
-maxval_mistake bs f = pick f.found (pick (eqb f.value 255) (pick (is_space (get_or bs f.end 0)) 0 8) 7) 4
+-- how many bytes stand before the pixels, the maxval and one white space, or the mistake of the maxval: that it is missing, that it is not
+-- 255, or that no white space is behind it
+abbrev pub pixels_of : List ℕ → Option Field → Result ℕ HeaderError
+pixels_of bs None = Err NoMaxval
+pixels_of bs (Some f) =
+    pick (eqb f.value 255) (pick (is_space (get_or bs f.len 0)) (Ok (f.len + 1)) (Err NoPixels)) (Err OtherMaxval)
 
--- the first mistake of the three numbers
-unfoldable pub mistake_of : List ℕ → Field → Field → Field → ℕ
-mistake_of bs width height maxval = earlier (earlier (size_mistake width 2 5) (size_mistake height 3 6)) (maxval_mistake bs maxval)
-
--- the header by its three numbers: the pixels begin behind one white space
-unfoldable pub header_by : List ℕ → Field → Field → Field → Header
-header_by bs width height maxval =
-    pick (eqb (mistake_of bs width height maxval) 0)
-    (record { mistake = 0; width = width.value; height = height.value; pixels = maxval.end + 1 })
-    (wrong_header (mistake_of bs width height maxval))
+-- those at the front
+unfoldable pub pixels_in : List ℕ → Result ℕ HeaderError
+pixels_in bs = pixels_of bs (field_in bs)
 
 -- whether the bytes begin with P6
 abbrev pub starts_p6 : List ℕ → Bool
 starts_p6 bs = pick (eqb (get_or bs 0 0) 80) (eqb (get_or bs 1 0) 54) false
 
--- the header at the start of a file's bytes: P6, and then width, height and maxval, each behind the one before
-unfoldable pub header_of : List ℕ → Header
-header_of bs =
-    let width = field_at bs 2 in
-    let height = field_at bs width.end in
-    let maxval = field_at bs height.end in
-    pick (starts_p6 bs) (header_by bs width height maxval) (wrong_header 1)
+-- what comes of a part of the header that is right; a mistake stays
+abbrev pub and_then : {A B : Type 0} → Result A HeaderError → (A → Result B HeaderError) → Result B HeaderError
+and_then (Ok x) f = f x
+and_then (Err e) f = Err e
 
--- what holds of the header of so many bytes, with a mistake or without
+-- the header at the start of a file's bytes, or its first mistake: P6, and then width, height and maxval, each behind the one before
+unfoldable pub header_of : List ℕ → Result Header HeaderError
+header_of bs =
+    pick (starts_p6 bs)
+    (and_then (size_in (drop 2 bs) NoWidth WidthOutside) (λ width.
+    and_then (size_in (drop (2 + width.len) bs) NoHeight HeightOutside) (λ height.
+    and_then (pixels_in (drop (2 + width.len + height.len) bs)) (λ maxval.
+    Ok (record { width = width.value; height = height.value; pixels = 2 + width.len + height.len + maxval })))))
+    (Err NoName)
+
+-- what is said of a mistake
+abbrev pub mistake_text : HeaderError → List ℕ
+mistake_text NoName = codes "does not begin with P6; expected a binary PPM picture"
+mistake_text NoWidth = codes "has no width in its first 4096 bytes; expected a number from 1 to 16384 behind P6"
+mistake_text NoHeight = codes "has no height in its first 4096 bytes; expected a number from 1 to 16384 behind the width"
+mistake_text NoMaxval = codes "has no greatest value in its first 4096 bytes; expected 255 behind the height"
+mistake_text WidthOutside = codes "has a width out of range; expected 1 to 16384"
+mistake_text HeightOutside = codes "has a height out of range; expected 1 to 16384"
+mistake_text OtherMaxval = codes "has a greatest value that is not 255; expected 255"
+mistake_text NoPixels = codes "has no pixels behind its greatest value; expected one white space and then the pixels"
+
+-- what holds of the header of so many bytes
 pub record Sized (header : Header) (bytes : ℕ) : Type 0 where
   pub wide : 1 ≤ header.width
   pub narrow : header.width ≤ 16384

@@ -1,6 +1,6 @@
 -- Rows worked by hand, in plain bytes.
-use Rattle.std.specs.Prelude.{◌≡◌, [], ◌∷◌}
-use Rattle.text.specs.declared.decimal.Parsed.TheVariants.{Number, Wrong}
+use Rattle.std.specs.Prelude.{◌≡◌, [], ◌∷◌, None, Some, Ok, Err}
+use Rattle.text.specs.declared.ppm.HeaderError.TheVariants.{NoPixels}
 use Rattle.text.specs.Line.{decimal_of, thousandths_of}
 use Rattle.text.specs.Decimal.{number_in}
 use Rattle.text.specs.Words.{word_of}
@@ -17,11 +17,11 @@ pub record Worked : Type 0 where
   -- 7 thousandths are "0.007"
   pub places_alone : thousandths_of 7 ≡ 48 ∷ 46 ∷ 48 ∷ 48 ∷ 55 ∷ []
   -- "120" is 120
-  pub number : number_in (49 ∷ 50 ∷ 48 ∷ []) ≡ Number 120
+  pub number : number_in (49 ∷ 50 ∷ 48 ∷ []) ≡ Some 120
   -- "042" is 42
-  pub leading_zero : number_in (48 ∷ 52 ∷ 50 ∷ []) ≡ Number 42
+  pub leading_zero : number_in (48 ∷ 52 ∷ 50 ∷ []) ≡ Some 42
   -- "4.2" is no number
-  pub no_number : number_in (52 ∷ 46 ∷ 50 ∷ []) ≡ Wrong
+  pub no_number : number_in (52 ∷ 46 ∷ 50 ∷ []) ≡ None
   -- "to" and "be", each ended by a 0 byte, and an "o" that is not: word 1 is "be"
   pub second_word : word_of (116 ∷ 111 ∷ 0 ∷ 98 ∷ 101 ∷ 0 ∷ 111 ∷ []) 1 ≡ 98 ∷ 101 ∷ []
   -- and there is no word 2
@@ -31,11 +31,11 @@ pub record Worked : Type 0 where
   -- the same read: pixels from byte 13 on
   pub header-taken :
       header_of (80 ∷ 54 ∷ 10 ∷ 54 ∷ 52 ∷ 32 ∷ 52 ∷ 56 ∷ 10 ∷ 50 ∷ 53 ∷ 53 ∷ 10 ∷ [])
-      ≡ record { mistake = 0; width = 64; height = 48; pixels = 13 }
+      ≡ Ok (record { width = 64; height = 48; pixels = 13 })
   -- P6, a comment "# 9 9", a line feed, "4 2", a line feed, "255", a line feed: 4 by 2, with pixels from byte 16 on
   pub comment-skipped :
       header_of (80 ∷ 54 ∷ 35 ∷ 32 ∷ 57 ∷ 32 ∷ 57 ∷ 10 ∷ 52 ∷ 32 ∷ 50 ∷ 10 ∷ 50 ∷ 53 ∷ 53 ∷ 10 ∷ 0 ∷ [])
-      ≡ record { mistake = 0; width = 4; height = 2; pixels = 16 }
+      ≡ Ok (record { width = 4; height = 2; pixels = 16 })
   -- P6, a space, "4 2 255" and no more: no white space behind the maxval
   pub cut_off :
-      header_of (80 ∷ 54 ∷ 32 ∷ 52 ∷ 32 ∷ 50 ∷ 32 ∷ 50 ∷ 53 ∷ 53 ∷ []) ≡ record { mistake = 8; width = 1; height = 1; pixels = 0 }
+      header_of (80 ∷ 54 ∷ 32 ∷ 52 ∷ 32 ∷ 50 ∷ 32 ∷ 50 ∷ 53 ∷ 53 ∷ []) ≡ Err NoPixels

@@ -1,49 +1,128 @@
-// Text put into a lent buffer, one piece after the other.
-ghost use Rattle.io.specs.Counts.{IsPrefixLen};
-ghost use Rattle.text.specs.Line.{Put, decimal_of, thousandths_of};
+// Text in fixed memory, put together piece by piece, and numbers as text.
+ghost use Rattle.std.specs.Prelude.{◌≡◌, ◌+◌, ◌≤◌, ◌↔◌, [], ◌++◌, length, IsOk, OnErr, Some};
+ghost use Rattle.text.specs.Line.{with_text, decimal_of, thousandths_of};
 
-// Puts a text at a place and answers the place behind it; where it does not fit, changes nothing and answers the place, or the end.
-pub fn put(text: &[u8], to: &mut [u8], at: usize) -> usize
-    ensures counts { IsPrefixLen result to.new }
-    ensures says { Put text.now at result to.old to.new }
-{
-    if to.len() < at {
-        return to.len();
-    }
-    if to.len() - at < text.len() {
-        return at;
-    }
-    let mut i: usize = 0;
-    while i < text.len() {
-        to[at + i] = text[i];
-        i += 1;
-    }
-    at + i
+use std::fmt;
+use std::marker::Model;
+
+// Text of at most N bytes. It need not be UTF-8, since a path need not.
+#[derive(Drop)]
+pub struct Line<const N: usize> {
+    bytes: [u8; N],
+    len: usize,
 }
 
-// Puts the decimal digits of a number, as `put` does.
-pub fn put_decimal(n: u64, to: &mut [u8], at: usize) -> usize
-    ensures counts { IsPrefixLen result to.new }
-    ensures says { Put (decimal_of n) at result to.old to.new }
-{
-    let mut digits = [0u8; 20];
-    let k = io::decimal(n, &mut digits);
-    put(&digits[..k], to, at)
+impl<const N: usize> Model for Line<N> {
+    ghost use Rattle.std.specs.Prelude.{ℕ, ◌≤◌, List, take};
+
+    ghost Value = { List ℕ };
+
+    ghost view = { λ line. take line.len line.bytes };
+
+    ghost invariant = { λ line. line.len ≤ N };
 }
 
-// Puts a number of thousandths, with three places after the point, as `put` does.
-pub fn put_thousandths(n: u64, to: &mut [u8], at: usize) -> usize
-    ensures counts { IsPrefixLen result to.new }
-    ensures says { Put (thousandths_of n) at result to.old to.new }
-{
-    let places = [
-        b'.',
-        48 + (n / 100 % 10) as u8,
-        48 + (n / 10 % 10) as u8,
-        48 + (n % 10) as u8,
-    ];
-    let mut text = [0u8; 24];
-    let whole = put_decimal(n / 1000, &mut text, 0);
-    let end = put(&places, &mut text, whole);
-    put(&text[..end], to, at)
+impl<const N: usize> Line<N> {
+    // An empty line.
+    pub fn new() -> Self
+        ensures { result ≡ [] }
+    {
+        Line {
+            bytes: [0; N],
+            len: 0,
+        }
+    }
+
+    // Puts a text behind what is there; where it does not fit, changes nothing.
+    pub fn put(&mut self, text: &[u8])
+        ensures { self.new ≡ with_text N self.old text.now }
+    {
+        let at = self.len;
+        if text.len() <= N - at {
+            let end = at + text.len();
+            let bytes = &mut self.bytes[..];
+            bytes[at..end].copy_from_slice(text);
+            self.len = end;
+        }
+    }
+
+    // Puts the decimal digits of a number, as `put` does.
+    #[tactic(auto, using(crate::proofs::DecimalText::decimal_written))]
+    pub fn put_number(&mut self, n: u64)
+        ensures { self.new ≡ with_text N self.old (decimal_of n) }
+    {
+        self.put(itoa::Buffer::new().format(n).as_bytes());
+    }
+
+    // What is put.
+    pub fn as_bytes(&self) -> &[u8]
+        ensures value { result.now ≡ self.now }
+        ensures fits { length result.now ≤ N }
+    {
+        &self.bytes[..self.len]
+    }
+
+    // Makes the line empty.
+    pub fn clear(&mut self)
+        ensures { self.new ≡ [] }
+    {
+        self.len = 0;
+    }
+}
+
+impl<const N: usize> fmt::Write for Line<N> {
+    ghost write_str_gives = { λ line text after. after ≡ line ++ text };
+
+    fn write_str(&mut self, s: &str) -> fmt::Result
+        ensures ok { IsOk result → self.new ≡ self.old ++ s.now }
+        ensures fits { IsOk result ↔ (length self.old + length s.now ≤ N) }
+        ensures err { OnErr result (self.new ≡ self.old) }
+    {
+        if s.len() > N - self.len {
+            return Err(fmt::Error);
+        }
+        self.put(s.as_bytes());
+        Ok(())
+    }
+}
+
+impl<const N: usize> fmt::Display for Line<N> {
+    ghost output = { λ line. Some line };
+
+    // Fails where the bytes are no UTF-8.
+    fn fmt<W: fmt::Write>(&self, f: &mut fmt::Formatter<W>) -> fmt::Result {
+        match str::from_utf8(self.as_bytes()) {
+            Ok(text) => f.write_str(text),
+            Err(_) => Err(fmt::Error),
+        }
+    }
+}
+
+// A number of thousandths, which is written with three places after the point: 3.750 for 3750.
+#[derive(Clone, Copy, Debug, PartialEq, Eq)]
+pub struct Thousandths(pub u64);
+
+impl Thousandths {
+    // The number as text.
+    #[tactic(auto, using(crate::proofs::PiecesText::thousandths_put))]
+    pub fn text(self) -> Line<24>
+        ensures { result ≡ thousandths_of self.0 }
+    {
+        let n = self.0;
+        let mut line = Line::new();
+        line.put_number(n / 1000);
+        line.put(b".");
+        line.put_number(n / 100 % 10);
+        line.put_number(n / 10 % 10);
+        line.put_number(n % 10);
+        line
+    }
+}
+
+impl fmt::Display for Thousandths {
+    ghost output = { λ n. Some (thousandths_of n.0) };
+
+    fn fmt<W: fmt::Write>(&self, f: &mut fmt::Formatter<W>) -> fmt::Result {
+        self.text().fmt(f)
+    }
 }

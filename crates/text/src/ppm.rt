@@ -1,44 +1,78 @@
 // The header of a binary PPM picture, Netpbm's P6.
-ghost use Rattle.std.specs.Prelude.{◌≡◌, ◌≤◌, length};
-ghost use Rattle.io.specs.Counts.{IsPrefixLen};
-ghost use Rattle.text.specs.Line.{Put};
+ghost use Rattle.std.specs.Prelude.{◌≡◌, ◌≤◌, false, length, IfOk, IfSome, IsTrue, Some};
 ghost use Rattle.text.specs.Decimal.{digits_in};
-ghost use Rattle.text.specs.Ppm.{is_space, in_gap, in_comment, gap_end, small_value, field_at, wrong_header, size_fits, earlier};
-ghost use Rattle.text.specs.Ppm.{size_mistake, maxval_mistake, mistake_of, header_by, header_of, Sized, header_text};
+ghost use Rattle.text.specs.Ppm.{is_space, in_gap, in_comment, gap_in, small_value, field_in, size_fits};
+ghost use Rattle.text.specs.Ppm.{mistake_text, size_in, pixels_in, starts_p6, header_of, Sized, header_text};
 
-pub use crate::Header;
-use crate::decimal::{digits_end, value};
-use crate::line::{put, put_decimal};
+use crate::decimal::{digits_in, number};
+use crate::line::Line;
+use std::error::Error;
+use std::fmt;
 
-// A number of a header: whether there is one, its value, 0 where it has more than nine digits, and the place behind it.
+// What a header says.
+#[derive(Clone, Copy, Debug, PartialEq, Eq)]
+pub struct Header {
+    pub width: usize,
+    pub height: usize,
+    // The place of the first pixel's first byte.
+    pub pixels: usize,
+}
+
+// What is wrong with a header: that a part is missing, that a size is not 1 to 16384, or that the greatest value is not 255.
+#[derive(Clone, Copy, Debug, PartialEq, Eq)]
+pub enum HeaderError {
+    NoName,
+    NoWidth,
+    NoHeight,
+    NoMaxval,
+    WidthOutside,
+    HeightOutside,
+    OtherMaxval,
+    NoPixels,
+}
+
+impl fmt::Display for HeaderError {
+    ghost output = { λ mistake. Some (mistake_text mistake) };
+
+    fn fmt<W: fmt::Write>(&self, f: &mut fmt::Formatter<W>) -> fmt::Result {
+        f.write_str(match self {
+            HeaderError::NoName => "does not begin with P6; expected a binary PPM picture",
+            HeaderError::NoWidth =>
+                "has no width in its first 4096 bytes; expected a number from 1 to 16384 behind P6",
+            HeaderError::NoHeight =>
+                "has no height in its first 4096 bytes; expected a number from 1 to 16384 behind the width",
+            HeaderError::NoMaxval =>
+                "has no greatest value in its first 4096 bytes; expected 255 behind the height",
+            HeaderError::WidthOutside => "has a width out of range; expected 1 to 16384",
+            HeaderError::HeightOutside => "has a height out of range; expected 1 to 16384",
+            HeaderError::OtherMaxval => "has a greatest value that is not 255; expected 255",
+            HeaderError::NoPixels =>
+                "has no pixels behind its greatest value; expected one white space and then the pixels",
+        })
+    }
+}
+
+impl Error for HeaderError {}
+
+// A number of a header: its value, 0 where it has more than nine digits, and how many bytes it takes with the white space before it.
 #[derive(Clone, Copy)]
 pub(crate) struct Field {
-    pub found: bool,
     pub value: usize,
-    pub end: usize,
+    pub len: usize,
 }
 
 // Whether a byte is white space.
 fn is_space(b: u8) -> bool
     ensures { result ≡ is_space b }
 {
-    if b == b' ' {
-        return true;
-    }
-    if b < 9 { false } else { b <= 13 }
+    matches!(b, b' ' | 9..=13)
 }
 
 // Whether a byte belongs to white space and comments, inside a comment or outside.
 fn in_gap(comment: bool, b: u8) -> bool
     ensures { result ≡ in_gap comment b }
 {
-    if comment {
-        return true;
-    }
-    if b == b'#' {
-        return true;
-    }
-    is_space(b)
+    comment || b == b'#' || is_space(b)
 }
 
 // Whether the byte behind a byte is inside a comment, which ends with its line.
@@ -46,165 +80,158 @@ fn in_comment(comment: bool, b: u8) -> bool
     ensures { result ≡ in_comment comment b }
 {
     if comment {
-        if b == 10 {
-            return false;
-        }
-        return b != 13;
+        b != b'\n' && b != b'\r'
+    } else {
+        b == b'#'
     }
-    b == b'#'
 }
 
-// The place behind the white space and comments at a place.
-fn gap_end(bytes: &[u8], from: usize) -> usize
-    requires { from ≤ length bytes.now }
-    ensures place { result ≡ gap_end bytes.now from }
+// How many bytes of white space and comments stand at the front.
+fn gap_in(bytes: &[u8]) -> usize
+    ensures count { result ≡ gap_in false bytes.now }
     ensures inside { result ≤ length bytes.now }
 {
     let mut comment = false;
-    let mut at = from;
-    while at < bytes.len() {
-        if !in_gap(comment, bytes[at]) {
+    for (at, byte) in bytes.iter().enumerate() {
+        if !in_gap(comment, *byte) {
             return at;
         }
-        comment = in_comment(comment, bytes[at]);
-        at += 1;
+        comment = in_comment(comment, *byte);
     }
-    at
+    bytes.len()
 }
 
-// The number of at most nine digits, and 0 for more.
+// The number of at most nine digits, and 0 for more; cast, since Rust has no `From` between `u64` and `usize`.
+#[tactic(auto, using(crate::proofs::SmallValue::small_long, crate::proofs::SmallValue::small_number))]
 fn small_value(digits: &[u8]) -> usize
     requires { digits_in digits.now ≡ length digits.now }
     ensures { result ≡ small_value digits.now }
 {
-    if 9 < digits.len() {
+    if digits.len() > 9 {
         return 0;
     }
-    value(digits) as usize
+    number(digits).unwrap_or(0) as usize
 }
 
-// The number whose white space starts at a place.
-fn field_at(bytes: &[u8], from: usize) -> Field
-    requires { from ≤ length bytes.now }
-    ensures { (result ≡ field_at bytes.now from) × (result.end ≤ length bytes.now) }
+// The number at the front, behind its white space.
+#[tactic(auto, using(crate::proofs::DecimalText::digits_alone), unfolding(crate::specs::Ppm::field_in))]
+fn field_in(bytes: &[u8]) -> Option<Field>
+    ensures says { result ≡ field_in bytes.now }
+    ensures inside { IfSome result (λ field. field.len ≤ length bytes.now) }
 {
-    let start = gap_end(bytes, from);
-    let end = digits_end(bytes, start);
-    let value = small_value(&bytes[start..end]);
-    Field {
-        found: from < start && start < end,
-        value,
-        end,
+    let gap = gap_in(bytes);
+    let rest = &bytes[gap..];
+    let count = digits_in(rest);
+    if gap > 0 && count > 0 {
+        let value = small_value(&rest[..count]);
+        Some(Field {
+            value,
+            len: gap + count,
+        })
+    } else {
+        None
     }
 }
 
 // Whether a width or a height is 1 to 16384.
 fn size_fits(n: usize) -> bool
-    ensures { result ≡ size_fits n }
+    ensures says { result ≡ size_fits n }
+    ensures range { IsTrue result → (1 ≤ n) × (n ≤ 16384) }
 {
-    if n < 1 { false } else { n <= 16384 }
+    (1..=16384).contains(&n)
 }
 
-// The answer to a header with a mistake.
-fn wrong_header(mistake: u8) -> Header
-    ensures { result ≡ wrong_header mistake }
+// The width or the height at the front, or the mistake that it is missing or outside 1 to 16384.
+#[tactic(auto, unfolding(crate::specs::Ppm::size_in))]
+fn size_in(bytes: &[u8], missing: HeaderError, outside: HeaderError) -> Result<Field, HeaderError>
+    ensures says { result ≡ size_in bytes.now missing outside }
+    ensures inside { IfOk result (λ size. size.len ≤ length bytes.now) }
+    ensures fits { IfOk result (λ size. (1 ≤ size.value) × (size.value ≤ 16384)) }
 {
-    Header {
-        mistake,
-        width: 1,
-        height: 1,
-        pixels: 0,
+    let size = field_in(bytes).ok_or(missing)?;
+    if !size_fits(size.value) {
+        return Err(outside);
     }
+    Ok(size)
 }
 
-// The earlier of two mistakes in reading order, where 0 is none.
-fn earlier(a: u8, b: u8) -> u8
-    ensures { result ≡ earlier a b }
+// How many bytes the maxval at the front takes, with the white space before it and one behind it.
+#[tactic(auto, unfolding(crate::specs::Ppm::pixels_in))]
+fn pixels_in(bytes: &[u8]) -> Result<usize, HeaderError>
+    ensures says { result ≡ pixels_in bytes.now }
+    ensures inside { IfOk result (λ len. len ≤ length bytes.now) }
 {
-    if a == 0 { b } else { a }
-}
-
-// The mistake of a width or a height: that it is missing, or that it is not 1 to 16384.
-fn size_mistake(size: Field, missing: u8, outside: u8) -> u8
-    ensures { result ≡ size_mistake size missing outside }
-{
-    if !size.found {
-        return missing;
-    }
-    if size_fits(size.value) { 0 } else { outside }
-}
-
-// The mistake of the maxval: that it is missing, that it is not 255, or that no white space is behind it.
-fn maxval_mistake(bytes: &[u8], maxval: Field) -> u8
-    ensures { result ≡ maxval_mistake bytes.now maxval }
-{
-    let end = maxval.end;
-    if !maxval.found {
-        return 4;
-    }
+    let maxval = field_in(bytes).ok_or(HeaderError::NoMaxval)?;
     if maxval.value != 255 {
-        return 7;
+        return Err(HeaderError::OtherMaxval);
     }
-    if bytes.len() <= end {
-        return 8;
-    }
-    if is_space(bytes[end]) { 0 } else { 8 }
-}
-
-// The first mistake of the three numbers.
-fn mistake_of(bytes: &[u8], width: Field, height: Field, maxval: Field) -> u8
-    ensures { result ≡ mistake_of bytes.now width height maxval }
-{
-    let sizes = earlier(size_mistake(width, 2, 5), size_mistake(height, 3, 6));
-    earlier(sizes, maxval_mistake(bytes, maxval))
-}
-
-// The header by its three numbers: the pixels begin behind one white space.
-fn header_by(bytes: &[u8], width: Field, height: Field, maxval: Field) -> Header
-    ensures { result ≡ header_by bytes.now width height maxval }
-{
-    let mistake = mistake_of(bytes, width, height, maxval);
-    if mistake != 0 {
-        return wrong_header(mistake);
-    }
-    Header {
-        mistake,
-        width: width.value,
-        height: height.value,
-        pixels: maxval.end + 1,
+    match bytes.get(maxval.len) {
+        Some(byte) if is_space(*byte) => Ok(maxval.len + 1),
+        _ => Err(HeaderError::NoPixels),
     }
 }
 
-// The header at the start of a file's bytes.
-pub fn header(bytes: &[u8]) -> Header
-    ensures says { result ≡ header_of bytes.now }
-    ensures sized { Sized result (length bytes.now) }
+// Whether a file's bytes begin with P6.
+fn starts_p6(bytes: &[u8]) -> bool
+    ensures says { result ≡ starts_p6 bytes.now }
+    ensures long { IsTrue result → 2 ≤ length bytes.now }
 {
-    if bytes.len() < 2 {
-        return wrong_header(1);
-    }
-    if bytes[0] != b'P' {
-        return wrong_header(1);
-    }
-    if bytes[1] != b'6' {
-        return wrong_header(1);
-    }
-    let width = field_at(bytes, 2);
-    let height = field_at(bytes, width.end);
-    let maxval = field_at(bytes, height.end);
-    header_by(bytes, width, height, maxval)
+    bytes.starts_with(b"P6")
 }
 
-// Puts the header of a picture, as `put` does.
-pub fn put_header(width: usize, height: usize, to: &mut [u8], at: usize) -> usize
-    ensures counts { IsPrefixLen result to.new }
-    ensures says { Put (header_text width height) at result to.old to.new }
-{
-    let mut text = [0u8; 64];
-    let name = put(b"P6\n", &mut text, 0);
-    let first = put_decimal(width as u64, &mut text, name);
-    let space = put(b" ", &mut text, first);
-    let second = put_decimal(height as u64, &mut text, space);
-    let end = put(b"\n255\n", &mut text, second);
-    put(&text[..end], to, at)
+impl Header {
+    // The header at the start of a file's bytes, or its first mistake.
+    #[tactic(auto, unfolding(crate::specs::Ppm::header_of))]
+    pub fn parse(bytes: &[u8]) -> Result<Header, HeaderError>
+        ensures says { result ≡ header_of bytes.now }
+        ensures sized { IfOk result (λ header. Sized header (length bytes.now)) }
+    {
+        if !starts_p6(bytes) {
+            return Err(HeaderError::NoName);
+        }
+        let width = size_in(&bytes[2..], HeaderError::NoWidth, HeaderError::WidthOutside)?;
+        let at = 2 + width.len;
+        let height = size_in(
+            &bytes[at..],
+            HeaderError::NoHeight,
+            HeaderError::HeightOutside,
+        )?;
+        let at = at + height.len;
+        let maxval = pixels_in(&bytes[at..])?;
+        Ok(Header {
+            width: width.value,
+            height: height.value,
+            pixels: at + maxval,
+        })
+    }
+}
+
+// The header of a picture that is written, without a comment.
+#[derive(Clone, Copy, Debug, PartialEq, Eq)]
+pub struct NewHeader {
+    pub width: usize,
+    pub height: usize,
+}
+
+impl NewHeader {
+    // The header as text. The sizes are cast, since Rust has no `From` between `usize` and `u64`.
+    pub fn text(self) -> Line<64>
+        ensures { result ≡ header_text self.width self.height }
+    {
+        let mut line = Line::new();
+        line.put(b"P6\n");
+        line.put_number(self.width as u64);
+        line.put(b" ");
+        line.put_number(self.height as u64);
+        line.put(b"\n255\n");
+        line
+    }
+}
+
+impl fmt::Display for NewHeader {
+    ghost output = { λ header. Some (header_text header.width header.height) };
+
+    fn fmt<W: fmt::Write>(&self, f: &mut fmt::Formatter<W>) -> fmt::Result {
+        self.text().fmt(f)
+    }
 }

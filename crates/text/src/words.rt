@@ -1,66 +1,59 @@
 // The words of a command line: bytes in which a 0 byte ends each word.
-ghost use Rattle.std.specs.Prelude.{◌≡◌, ◌≤◌, length, drop};
-ghost use Rattle.text.specs.Runs.{run_end};
-ghost use Rattle.text.specs.Words.{words_in, in_word, first_word, word_from, word_of};
+ghost use Rattle.std.specs.Prelude.{◌≡◌, ◌≤◌, length};
+ghost use Rattle.std.specs.List.{prefix_len};
+ghost use Rattle.std.specs.Iterator.{YieldsFirstRef, item_count};
+ghost use Rattle.text.specs.Words.{in_word, words_of};
 
-// How many words a line has.
-pub fn words(line: &[u8]) -> usize
-    ensures { result ≡ words_in line.now }
-{
-    let mut n: usize = 0;
-    let mut i: usize = 0;
-    while i < line.len() {
-        if line[i] == 0 {
-            n += 1;
-        }
-        i += 1;
-    }
-    n
+use std::marker::Model;
+
+// The words of a line, without their 0 bytes. What stands behind the last 0 byte is none.
+#[derive(Drop)]
+pub struct Words<'a> {
+    rest: &'a [u8],
 }
 
-// The place where word k starts: behind the first k words.
-fn start_of(line: &[u8], k: usize) -> usize
+// A clause sees the list of the words that are left.
+impl<'a> Model for Words<'a> {
+    ghost use Rattle.std.specs.Prelude.{ℕ, List};
+    ghost use Rattle.text.specs.Words.{words_of};
+
+    ghost Value = { List (List ℕ) };
+
+    ghost view = { λ words. words_of words.rest.now };
+}
+
+// The length of the word at the front of a line: up to the first 0 byte, or the whole line.
+fn word_len(line: &[u8]) -> usize
+    ensures length { result ≡ prefix_len in_word line.now }
     ensures inside { result ≤ length line.now }
-    ensures word { first_word (drop result line.now) ≡ word_from line.now k }
 {
-    let mut left = k;
-    let mut at: usize = 0;
-    while at < line.len() {
-        if left == 0 {
-            return at;
-        }
-        if line[at] == 0 {
-            left -= 1;
-        }
-        at += 1;
-    }
-    at
+    line.iter().take_while(|byte| **byte != 0).count()
 }
 
-// The place behind the word that starts at a place: that of its 0 byte.
-fn end_of(line: &[u8], from: usize) -> usize
-    requires { from ≤ length line.now }
-    ensures inside { result ≤ length line.now }
-    ensures word { result ≡ run_end in_word line.now from }
-{
-    let mut at = from;
-    while at < line.len() {
-        if line[at] == 0 {
-            return at;
+impl<'a> Iterator for Words<'a> {
+    type Item = &'a [u8];
+
+    ghost next_gives = { YieldsFirstRef (λ words. words) };
+
+    ghost remaining = { item_count (λ words. words) };
+
+    #[tactic(auto, using(crate::proofs::WordList::words_none, crate::proofs::WordList::words_first, crate::proofs::WordList::words_fewer))]
+    fn next(&mut self) -> Option<&'a [u8]> {
+        let end = word_len(self.rest);
+        if end == self.rest.len() {
+            return None;
         }
-        at += 1;
+        let word = &self.rest[..end];
+        self.rest = &self.rest[end + 1..];
+        Some(word)
     }
-    at
 }
 
-// Word k of a line without its 0 byte; empty where there is none.
-pub fn word(line: &[u8], k: usize) -> &[u8]
-    ensures { result.now ≡ word_of line.now k }
-{
-    if words(line) <= k {
-        return &line[..0];
+impl<'a> Words<'a> {
+    // The words of a line.
+    pub fn new(line: &'a [u8]) -> Self
+        ensures { result ≡ words_of line.now }
+    {
+        Words { rest: line }
     }
-    let start = start_of(line, k);
-    let end = end_of(line, start);
-    &line[start..end]
 }

@@ -5,6 +5,8 @@ use mathlib.Core.Path.{◌≡◌, sym, ◌∙◌}
 use mathlib.Core.List.{List}
 use lib.ListN.{length}
 use borrow.Author.Tests.{eq-eqb, ne_eqb}
+use Rattle.refusals.specs.Numbers.{number_of}
+use Rattle.refusals.proofs.Numbers.{some_number}
 use Rattle.bptc_block.specs.declared.Candidate.{Candidate}
 use Rattle.bptc_block.specs.Refusal.{check_candidate}
 use Rattle.bptc_block.specs.FinishCall.{finish_refusal, finish_of, finish_into}
@@ -13,7 +15,7 @@ use Rattle.bptc_block.proofs.FinishCall.{finish-declines, finish-declined, finis
 use Rattle.bc7_c.specs.Numbers.{answered, candidate_of}
 use Rattle.bc7_c.specs.Calls.{finish_answer}
 use Rattle.bc7_c.proofs.Accepted.{Bytewise, bytewise}
-use Rattle.bc7_c.proofs.bc7_finish.Goals.{Else-declined-ne0}
+use Rattle.bc7_c.proofs.bc7_finish.Goals.{In_default}
 use Rattle.bc7_c.proofs.bc7_finish.Goals as goal
 
 -- the checks of the parts and of a candidate
@@ -41,7 +43,7 @@ module _ (px : List ℕ) (k : Candidate) (part : List ℕ) where
   rest-refused e f = rw (eq-eqb (length px) 48 e, eq-eqb (length part) 16 f)
 
 -- the parts have their lengths, and the checks accept the numbers
-module _ (c : Else-declined-ne0) where
+module _ (c : In_default) where
   -- what is handed over
   abbrev handed : Candidate
   handed = candidate_of c.args.mode c.args.partition c.args.e0 c.args.e1 c.args.e2 c.args.e3 c.args.p c.args.free
@@ -53,7 +55,7 @@ module _ (c : Else-declined-ne0) where
   sixteen = omega arith
 
   accepted : check_candidate handed 0 ≡ 0
-  accepted = sym c.candidate_refusal-declined.ensures ∙ omega arith
+  accepted = sym c.in_default.ensures
 
   ok : (finish_of c.args.pixels.now handed c.args.block.now).refusal ≡ 0
   ok = finish-declines c.args.pixels.now handed c.args.block.now forty-eight sixteen ∙ accepted
@@ -65,45 +67,46 @@ pub returns-then-pixels-ne48 : goal.returns-then-pixels-ne48
 returns-then-pixels-ne48 c =
     let k : Candidate = candidate_of c.args.mode c.args.partition c.args.e0 c.args.e1 c.args.e2 c.args.e3 c.args.p c.args.free in
     let d = declined c.args.pixels.now k c.args.block.now 1 (pixels-refused c.args.pixels.now k c.args.block.now c.if-pixels-ne48.true) (omega arith) in
-    (record { answer = c.answer.ensures ∙ d.0; part = d.1 })
+    (record { answer = c.numbered.ensures ∙ d.0; part = d.1 })
 
 pub returns-then-block-ne16 : goal.returns-then-block-ne16
 returns-then-block-ne16 c =
     let k : Candidate = candidate_of c.args.mode c.args.partition c.args.e0 c.args.e1 c.args.e2 c.args.e3 c.args.p c.args.free in
     let d = declined c.args.pixels.now k c.args.block.now 2 (block_refused c.args.pixels.now k c.args.block.now (omega arith) c.if-block-ne16.true) (omega arith) in
-    (record { answer = c.answer-then-block-ne16.ensures ∙ d.0; part = d.1 })
+    (record { answer = c.numbered-then-block-ne16.ensures ∙ d.0; part = d.1 })
 
-pub returns-then-declined-ne0 : goal.returns-then-declined-ne0
-returns-then-declined-ne0 c =
+pub returns-in-Err : goal.returns-in-Err
+returns-in-Err c =
     let k : Candidate = candidate_of c.args.mode c.args.partition c.args.e0 c.args.e1 c.args.e2 c.args.e3 c.args.p c.args.free in
-    let e : finish_refusal c.args.pixels.now k c.args.block.now ≡ c.candidate_refusal-declined.result =
-    rest-refused c.args.pixels.now k c.args.block.now (omega arith) (omega arith) ∙ sym c.candidate_refusal-declined.ensures in
-    let d = declined c.args.pixels.now k c.args.block.now c.candidate_refusal-declined.result e c.if-declined-ne0.true in
-    (record { answer = c.answer-then-declined-ne0.ensures ∙ d.0; part = d.1 })
+    let n : ℕ = number_of c.in-Err.refusal in
+    let e : finish_refusal c.args.pixels.now k c.args.block.now ≡ n =
+    rest-refused c.args.pixels.now k c.args.block.now (omega arith) (omega arith) ∙ sym c.in-Err.ensures in
+    let d = declined c.args.pixels.now k c.args.block.now n e (some_number c.in-Err.refusal) in
+    (record { answer = c.numbered-in-Err.ensures ∙ d.0; part = d.1 })
 
 pub overflow_cast-mode : goal.overflow_cast-mode
-overflow_cast-mode c = record { fits = (taken (goal.at.overflow_cast-mode c).Else-declined-ne0).mode-byte }
+overflow_cast-mode c = record { fits = (taken (goal.at.overflow_cast-mode c).In_default).mode-byte }
 
 pub overflow_cast-partition : goal.overflow_cast-partition
-overflow_cast-partition c = record { fits = (taken (goal.at.overflow_cast-partition c).Else-declined-ne0).partition-byte }
+overflow_cast-partition c = record { fits = (taken (goal.at.overflow_cast-partition c).In_default).partition-byte }
 
 pub p_bits-requires : goal.p_bits-requires
-p_bits-requires c = (taken (goal.at.p_bits-requires c).Else-declined-ne0).p-byte
+p_bits-requires c = (taken (goal.at.p_bits-requires c).In_default).p-byte
 
 pub finish_words-error-requires : goal.finish_words-error-requires
 finish_words-error-requires c =
-    let e = (goal.at.finish_words-error-requires c).Else-declined-ne0 in
+    let e = (goal.at.finish_words-error-requires c).In_default in
     rw (c.p_bits.ensures, (taken e).same) (record { sixteen = forty-eight e; whole = sixteen e; accepted = accepted e })
 
 pub returns : goal.returns
 unfolding finish_answer
 returns c =
-    let e = (goal.at.returns c).Else-declined-ne0 in
+    let e = (goal.at.returns c).In_default in
     let same = (taken e).same in
     (record {
       answer =
           rw (
-            c.answer-2.ensures,
+            c.numbered-2.ensures,
             rw (c.p_bits.ensures, same) at c.finish_words-error.ensures.error,
             finish-answer c.args.pixels.now (handed e) c.args.block.now (ok e),
           );

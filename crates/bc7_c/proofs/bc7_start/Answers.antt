@@ -1,6 +1,6 @@
 -- `bc7_c::bc7_start` meets its contract.
 use native.Mathlib.Omega.{arith}
-use mathlib.Core.Path.{◌≡◌, refl}
+use mathlib.Core.Path.{◌≡◌, refl, ◌∙◌}
 use lib.ListN.{length}
 use borrow.Author.Tests.{eq-eqb, ne_eqb}
 use Rattle.bc7_c.specs.Calls.{start_answer, start_part}
@@ -14,4 +14,4 @@ pub returns : goal.returns
 unfolding start_answer start_part
 returns c =
     let whole : length c.args.chooser.now ≡ 68 = omega arith in
-    rw (eq-eqb _ 68 whole, ← c.start-started.ensures) (record { answer = refl; part = c.write_chooser.ensures })
+    rw (eq-eqb _ 68 whole, ← c.start-started.ensures) (record { answer = c.from.ensures ∙ c.number.ensures; part = c.write_chooser.ensures })

@@ -1,52 +1,52 @@
 -- `block::measure` meets its contract.
-use mathlib.Core.Path.{◌≡◌, sym, ◌∙◌}
-use mathlib.Core.List.{List}
 use Prim.Native.Nat.{ℕ}
 use native.Mathlib.Omega.{arith}
+use mathlib.Core.Path.{◌≡◌, refl, sym, ap, ◌∙◌}
+use mathlib.Core.List.{List}
 use lib.ListN.{length}
-use Rattle.bptc.specs.Mode.{mode_numbered}
-use Rattle.bptc_block.specs.Refusal.{check_pixels, check_block, check_readable}
-use Rattle.bptc_block.specs.ReadCall.{read_refusal, read_of}
+use borrow.Author.Tests.{ne_eqb}
+use Rattle.bptc.specs.Mode.{mode1, mode3, mode_numbered}
+use Rattle.bptc_block.specs.Packed.{mode_of}
 use Rattle.bptc_block.specs.Chapter.{distance}
-use Rattle.bptc_block.proofs.Widths.{plain_of}
-use Rattle.bptc_block.proofs.Packed.{well_formed}
-use Rattle.bptc_block.proofs.ReadCall.{read_number, measure-declined, read-sixteen, read_known, read-pixels-length, measure-answer}
+use Rattle.bptc_block.specs.ReadCall.{read_refusal, read_of}
+use Rattle.bptc_block.proofs.ReadCall.{read_number, read-sixteen, read-pixels-length, measure-answer}
 use Rattle.bptc_block.proofs.Distance.{distance-colours}
 use Rattle.block.proofs.measure.Goals as goal
 
--- the number that the checks give is the refusal's
-number : (block px : List ℕ) (n : ℕ) → n ≡ check_pixels (length px) (check_block (length block) (check_readable block 0)) → n ≡ read_refusal block px
-unfolding read_refusal
-number block px n e = e
+-- where the checks decline nothing
+module _ (block px : List ℕ) (e : 0 ≡ read_refusal block px) where
+  ok : (read_of block px).refusal ≡ 0
+  ok = read_number block px ∙ sym e
 
--- where it is 0 nothing is declined
-ok : (block px : List ℕ) (n : ℕ) → n ≡ check_pixels (length px) (check_block (length block) (check_readable block 0)) → n ≡ 0 → (read_of block px).refusal ≡ 0
-ok block px n e none = read_number block px ∙ sym (number block px n e) ∙ none
+  sixteen : length block ≡ 16
+  sixteen = read-sixteen block px ok
 
-pub mode_of-mode-requires : goal.mode_of-mode-requires
-mode_of-mode-requires c = read-sixteen c.args.block.now c.args.pixels.now (ok c.args.block.now c.args.pixels.now c.read_refusal-refusal.result c.read_refusal-refusal.ensures (omega arith))
+  whole : length px ≡ 48
+  whole = read-pixels-length block px ok
 
-pub fields-f-requires : goal.fields-f-requires
-fields-f-requires c = rw c.mode_of-mode.ensures (read_known c.args.block.now c.args.pixels.now (ok c.args.block.now c.args.pixels.now c.read_refusal-refusal.result c.read_refusal-refusal.ensures (omega arith)))
+pub mode_of-requires : goal.mode_of-requires
+mode_of-requires c = sixteen c.args.block.now c.args.pixels.now c.in_ok-check_read.ensures
 
-pub colours-requires : goal.colours-requires
-colours-requires c =
-    let m = mode_numbered c.mode_of-mode.result in
-    rw c.fields-f.ensures (plain_of m _ (well_formed m c.args.block.now))
+pub measure_as-requires : goal.measure_as-requires
+measure_as-requires c = whole c.args.block.now c.args.pixels.now c.in_ok-check_read.ensures
 
-pub distance-requires : goal.distance-requires
-distance-requires c = read-pixels-length c.args.block.now c.args.pixels.now (ok c.args.block.now c.args.pixels.now c.read_refusal-refusal.result c.read_refusal-refusal.ensures (omega arith))
+pub measure_as-requires-in_default : goal.measure_as-requires-in_default
+measure_as-requires-in_default c = whole c.args.block.now c.args.pixels.now c.in_ok-check_read.ensures
 
-pub returns-then-refusal-eq0 : goal.returns-then-refusal-eq0
-returns-then-refusal-eq0 c =
+pub returns-in-1 : goal.returns-in-1
+returns-in-1 c =
     let block = c.args.block.now in
     let px = c.args.pixels.now in
-    let same : c.distance.result ≡ distance px block =
-    c.distance.ensures ∙ rw (c.colours.ensures, c.fields-f.ensures, c.mode_of-mode.ensures) (sym (distance-colours px block)) in
-    let none : c.read_refusal-refusal.result ≡ 0 = c.if-refusal-eq0.true in
-    (λ t. record { refusal = none t; error = same t }) ∙ sym (measure-answer block px (ok c.args.block.now c.args.pixels.now c.read_refusal-refusal.result c.read_refusal-refusal.ensures none))
+    let own : mode_numbered c.mode_of.result ≡ mode1 = rw c.in-1.is in
+    let m : mode_numbered (mode_of block) ≡ mode1 = rw c.mode_of.ensures at own in
+    ap (λ (n : ℕ). record { refusal = 0; error = n }) (c.measure_as.ensures ∙ sym (rw m at (distance-colours px block)))
+    ∙ sym (measure-answer block px (ok block px c.in_ok-check_read.ensures))
 
-pub returns-else-refusal-eq0 : goal.returns-else-refusal-eq0
-returns-else-refusal-eq0 c =
-    let said : c.read_refusal-refusal.result ≡ read_refusal c.args.block.now c.args.pixels.now = number c.args.block.now c.args.pixels.now c.read_refusal-refusal.result c.read_refusal-refusal.ensures in
-    rw said (sym (measure-declined c.args.block.now c.args.pixels.now (λ e. c.if-refusal-eq0.false (said ∙ e))))
+pub returns-in_default : goal.returns-in_default
+returns-in_default c =
+    let block = c.args.block.now in
+    let px = c.args.pixels.now in
+    let own : mode_numbered c.mode_of.result ≡ mode3 = rw (ne_eqb c.mode_of.result 1 (omega arith)) in
+    let m : mode_numbered (mode_of block) ≡ mode3 = rw c.mode_of.ensures at own in
+    ap (λ (n : ℕ). record { refusal = 0; error = n }) (c.measure_as-in_default.ensures ∙ sym (rw m at (distance-colours px block)))
+    ∙ sym (measure-answer block px (ok block px c.in_ok-check_read.ensures))

@@ -1,67 +1,61 @@
 -- `block::read` meets its contract.
+use native.Mathlib.Omega.{arith}
+use mathlib.Core.Path.{◌≡◌, sym, ap₂, ◌∙◌}
 use mathlib.Core.List.{List}
 use Prim.Native.Nat.{ℕ}
-use native.Mathlib.Omega.{arith}
 use lib.ListN.{length}
-use Rattle.bptc.specs.Mode.{mode_numbered}
-use Rattle.bptc_block.specs.declared.Fields.{Fields}
-use Rattle.bptc_block.specs.Refusal.{check_pixels, check_block, check_readable}
-use Rattle.bptc_block.proofs.Widths.{plain_of}
-use Rattle.bptc_block.proofs.Packed.{well_formed}
-use Rattle.bptc_block.proofs.ReadCall.{read_number, read-declined, read_leaves, read-sixteen, read_known, read-pixels-length, read_answer_lem, read-pixels}
-use Rattle.bptc_block.specs.Packed.{mode_of, fields_of}
-use mathlib.Core.Path.{◌≡◌, sym, ap, ap₂, ◌∙◌}
-use Rattle.bptc.specs.Colour.{bytes_of}
-use Rattle.bptc_block.specs.Chapter.{colours}
-use Rattle.bptc_block.specs.ReadCall.{read_refusal, reading_of, read_of}
+use borrow.Author.Tests.{ne_eqb}
+use Rattle.bptc.specs.Mode.{mode1, mode3, mode_numbered}
+use Rattle.bptc_block.specs.Packed.{mode_of}
+use Rattle.bptc_block.specs.Answers.{reading_of}
+use Rattle.bptc_block.specs.ReadCall.{read_refusal, read_of}
+use Rattle.bptc_block.proofs.ReadCall.{read_number, read-sixteen, read-pixels-length, read_answer_lem, read-pixels}
+use Rattle.bptc_block.proofs.Answers.{read_left}
 use Rattle.block.proofs.read.Goals as goal
 
--- the number that the checks give is the refusal's
-number : (block px : List ℕ) (n : ℕ) → n ≡ check_pixels (length px) (check_block (length block) (check_readable block 0)) → n ≡ read_refusal block px
-unfolding read_refusal
-number block px n e = e
+-- where the checks decline nothing
+module _ (block px : List ℕ) (e : 0 ≡ read_refusal block px) where
+  ok : (read_of block px).refusal ≡ 0
+  ok = read_number block px ∙ sym e
 
--- where it is 0 nothing is declined
-ok : (block px : List ℕ) (n : ℕ) → n ≡ check_pixels (length px) (check_block (length block) (check_readable block 0)) → n ≡ 0 → (read_of block px).refusal ≡ 0
-ok block px n e none = read_number block px ∙ sym (number block px n e) ∙ none
+  sixteen : length block ≡ 16
+  sixteen = read-sixteen block px ok
 
-pub returns-then-refusal-ne0 : goal.returns-then-refusal-ne0
-returns-then-refusal-ne0 c =
-    let block = c.args.block.now in
-    let px = c.args.pixels.now in
-    let said : c.read_refusal-refusal.result ≡ read_refusal block px = number block px c.read_refusal-refusal.result c.read_refusal-refusal.ensures in
-    let ne : read_refusal block px ≡ 0 → ⊥ = λ e. c.if-refusal-ne0.true (said ∙ e) in
-    (record {
-      answer = c.unread.ensures ∙ rw said (sym (read-declined block px ne));
-      part = sym (read_leaves block px (λ e. ne (sym (read_number block px) ∙ e)));
-    })
+  whole : length px ≡ 48
+  whole = read-pixels-length block px ok
+
+pub returns-in_err-check_read-clause-part : goal.returns-in_err-check_read-clause-part
+returns-in_err-check_read-clause-part c = read_left c.in_err-check_read.field-0.0 c.args.block.now c.args.pixels.now c.in_err-check_read.ensures
 
 pub mode_of-mode-requires : goal.mode_of-mode-requires
-mode_of-mode-requires c = read-sixteen c.args.block.now c.args.pixels.now (ok c.args.block.now c.args.pixels.now c.read_refusal-refusal.result c.read_refusal-refusal.ensures (omega arith))
+mode_of-mode-requires c = sixteen c.args.block.now c.args.pixels.now c.in_ok-check_read.ensures
 
-pub fields-f-requires : goal.fields-f-requires
-fields-f-requires c = rw c.mode_of-mode.ensures (read_known c.args.block.now c.args.pixels.now (ok c.args.block.now c.args.pixels.now c.read_refusal-refusal.result c.read_refusal-refusal.ensures (omega arith)))
+pub read_as-fields-requires : goal.read_as-fields-requires
+read_as-fields-requires c = whole c.args.block.now c.args.pixels.now c.in_ok-check_read.ensures
 
-pub colours-requires : goal.colours-requires
-colours-requires c =
-    let m = mode_numbered c.mode_of-mode.result in
-    rw c.fields-f.ensures (plain_of m _ (well_formed m c.args.block.now))
+pub read_as-fields-requires-in_default : goal.read_as-fields-requires-in_default
+read_as-fields-requires-in_default c = whole c.args.block.now c.args.pixels.now c.in_ok-check_read.ensures
 
-pub write_pixels-requires : goal.write_pixels-requires
-write_pixels-requires c = read-pixels-length c.args.block.now c.args.pixels.now (ok c.args.block.now c.args.pixels.now c.read_refusal-refusal.result c.read_refusal-refusal.ensures (omega arith))
-
-pub returns : goal.returns
-returns c =
+pub returns-in-1 : goal.returns-in-1
+returns-in-1 c =
     let block = c.args.block.now in
     let px = c.args.pixels.now in
-    let none = ok c.args.block.now c.args.pixels.now c.read_refusal-refusal.result c.read_refusal-refusal.ensures (omega arith) in
-    let mode : c.mode_of-mode.result ≡ mode_of block = c.mode_of-mode.ensures in
-    let own : c.fields-f.result ≡ fields_of (mode_numbered (mode_of block)) block =
-    c.fields-f.ensures ∙ ap (λ (k : ℕ). fields_of (mode_numbered k) block) mode in
+    let own : mode_numbered c.mode_of-mode.result ≡ mode1 = rw c.in-1.is in
+    let m : mode_numbered (mode_of block) ≡ mode1 = rw c.mode_of-mode.ensures at own in
+    let none = ok block px c.in_ok-check_read.ensures in
     (record {
-      answer = ap₂ reading_of mode own ∙ sym (read_answer_lem block px none);
-      part =
-          c.write_pixels.ensures
-          ∙ ap bytes_of (c.colours.ensures ∙ ap₂ (λ (k : ℕ) (g : Fields). colours (mode_numbered k) g) mode own)
-          ∙ sym (read-pixels block px none);
+      answer = ap₂ reading_of c.mode_of-mode.ensures c.read_as-fields.ensures.fields ∙ sym (rw m at (read_answer_lem block px none));
+      part = c.read_as-fields.ensures.part ∙ sym (rw m at (read-pixels block px none));
+    })
+
+pub returns-in_default : goal.returns-in_default
+returns-in_default c =
+    let block = c.args.block.now in
+    let px = c.args.pixels.now in
+    let own : mode_numbered c.mode_of-mode.result ≡ mode3 = rw (ne_eqb c.mode_of-mode.result 1 (omega arith)) in
+    let m : mode_numbered (mode_of block) ≡ mode3 = rw c.mode_of-mode.ensures at own in
+    let none = ok block px c.in_ok-check_read.ensures in
+    (record {
+      answer = ap₂ reading_of c.mode_of-mode.ensures c.read_as-fields-in_default.ensures.fields ∙ sym (rw m at (read_answer_lem block px none));
+      part = c.read_as-fields-in_default.ensures.part ∙ sym (rw m at (read-pixels block px none));
     })

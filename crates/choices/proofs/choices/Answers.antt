@@ -4,23 +4,21 @@ use Rattle.choice_columns.proofs.FourColumns.{columns_small4}
 use Rattle.choices.proofs.ChoiceKeys.{choices_range, choice_below, columns_all, columns_second, columns_words}
 use Rattle.choices.proofs.choices.Goals as goal
 
-pub search16-keys-requires : goal.search16-keys-requires
-search16-keys-requires c =
-    let a = c.args in record {
-      sixteen = c.requires.sixteen;
-      steps = choices_range a.ends c.requires.stored c.choice_numbers-numbers.result c.choice_numbers-numbers.ensures a.px.now (λ i h. (c.type_inv.px i).fits) a.mask;
-    }
+pub block_columns-requires-clause-steps : goal.block_columns-requires-clause-steps
+block_columns-requires-clause-steps c =
+    let a = c.args in
+    choices_range a.ends c.requires.stored c.choice_numbers-numbers.result c.choice_numbers-numbers.ensures a.px.now (λ i h. (c.type_inv.px i).fits) a.mask
 
 pub column_sums-requires : goal.column_sums-requires
 column_sums-requires c =
     let a = c.args in
-    columns_small4 _ _ c.search16-keys.ensures (2 ^ 23) (omega arith)
+    columns_small4 _ _ c.block_columns.ensures (2 ^ 23) (omega arith)
     (choice_below a.ends c.requires.stored c.choice_numbers-numbers.result c.choice_numbers-numbers.ensures a.px.now (λ i h. (c.type_inv.px i).fits) a.mask)
 
 pub returns : goal.returns
 returns c =
     let a = c.args in
-    let out = c.search16-keys in
+    let out = c.block_columns in
     let told = c.column_sums.ensures in record {
       all = told.all ∙ columns_all a.ends c.requires.stored c.choice_numbers-numbers.result c.choice_numbers-numbers.ensures a.px.now (λ i h. (c.type_inv.px i).fits) a.mask out.result out.ensures;
       second = told.second ∙ columns_second a.ends c.requires.stored c.choice_numbers-numbers.result c.choice_numbers-numbers.ensures a.px.now (λ i h. (c.type_inv.px i).fits) a.mask out.result out.ensures;

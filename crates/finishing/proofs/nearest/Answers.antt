@@ -2,50 +2,57 @@
 use native.Mathlib.Omega.{arith}
 use Prim.Native.Nat.{ℕ, ◌+◌, ◌-◌, ◌≤◌}
 use mathlib.Core.Path.{◌≡◌, ap}
-use Rattle.bptc.specs.Mode.{mode_numbered}
+use mathlib.Core.List.{List}
+use Rattle.lists.specs.Bytes.{Bytes}
+use Rattle.bptc.specs.declared.Rgb.{Rgb}
+use Rattle.bptc.specs.Mode.{Mode, IsMode}
+use Rattle.bptc.specs.Shown.{Stored}
 use Rattle.bptc.specs.Colour.{colours_of}
 use Rattle.bptc.specs.Closest.{closest_in}
+use Rattle.bptc_block.specs.declared.PBits.{PBits}
 use Rattle.bptc_block.specs.Finish.{bits_in}
-use Rattle.bptc_block.proofs.Modes.{lawful}
+use Rattle.bptc_block.proofs.Modes.{lawful_of}
 use Rattle.closest.specs.declared.pick.Picked.{Picked}
 use Rattle.closest.specs.Pick.{raised_all, picked_for}
 use Rattle.finishing.specs.Indices.{nearest_for}
 use Rattle.finishing.proofs.Kept.{sum_small}
-use Rattle.finishing.proofs.nearest.Goals.{After-lacking}
 use Rattle.finishing.proofs.nearest.Goals as goal
 
-module _ (c : After-lacking) where
+module _ (m : Mode) (part : ℕ) (ends : List Rgb) (p : PBits) (px : List ℕ) (got : Picked) (is : got ≡ picked_for m part ends p (colours_of px)) where
   -- the error of subset s
   abbrev error_of : ℕ → ℕ
-  error_of s =
-      let m = mode_numbered c.args.mode in
-      let cs = colours_of c.args.px.now in
-      (closest_in m c.args.partition c.args.ends (bits_in m c.args.partition c.args.ends c.args.p cs s) s cs).error
+  error_of s = (closest_in m part ends (bits_in m part ends p (colours_of px) s) s (colours_of px)).error
 
   -- what is got is the errors and what the pixels are raised by
-  sum_is : c.picked-got.result.sum ≡ error_of 0 + error_of 1 + raised_all (colours_of c.args.px.now)
+  sum_is : got.sum ≡ error_of 0 + error_of 1 + raised_all (colours_of px)
   unfolding picked_for
-  sum_is = ap (λ (r : Picked). r.sum) c.picked-got.ensures
+  sum_is = ap (λ (r : Picked). r.sum) is
 
   -- and no more than this
-  sum_most : c.picked-got.result.sum ≤ 12484800
-  sum_most =
-      rw c.picked-got.ensures
-      (sum_small (mode_numbered c.args.mode) (lawful c.args.mode) c.args.partition c.args.ends c.requires.stored c.args.px.now (λ i h. (c.type_inv.px i).fits) c.args.p)
+  sum_most : IsMode m → Stored m ends → Bytes px → got.sum ≤ 12484800
+  sum_most known stored bytes = rw is (sum_small m (lawful_of m known) part ends stored px bytes p)
 
 pub overflow_add-result : goal.overflow_add-result
-overflow_add-result c = omega (arith, sum_most (goal.at.overflow_add-result c).After-lacking, c.lacking.ensures)
+overflow_add-result g c =
+    let a = c.args in
+    omega (arith, sum_most g.M.Mode.mode a.partition a.ends a.p a.px.now c.picked-got.result c.picked-got.ensures g.M.Mode.is_mode c.requires.stored (λ i h. (c.type_inv.px i).fits), c.lacking.ensures)
 
 pub overflow_sub-result : goal.overflow_sub-result
-overflow_sub-result c = omega (arith, sum_is (goal.at.overflow_sub-result c).After-lacking, c.lacking.ensures)
+overflow_sub-result g c =
+    let a = c.args in
+    omega (arith, sum_is g.M.Mode.mode a.partition a.ends a.p a.px.now c.picked-got.result c.picked-got.ensures, c.lacking.ensures)
 
 pub returns : goal.returns
 unfolding nearest_for picked_for
-returns c =
-    let r = (goal.at.returns c).After-lacking in
-    let error : c.picked-got.result.sum + c.lacking.result - 3121200 ≡ error_of r 0 + error_of r 1 = omega (arith, sum_is r, c.lacking.ensures.0) in
+returns g c =
+    let a = c.args in
+    let m = g.M.Mode.mode in
+    let is = c.picked-got.ensures in
+    let error_at = error_of m a.partition a.ends a.p a.px.now c.picked-got.result is in
+    let error : c.picked-got.result.sum + c.lacking.result - 3121200 ≡ error_at 0 + error_at 1 =
+    omega (arith, sum_is m a.partition a.ends a.p a.px.now c.picked-got.result is, c.lacking.ensures.0) in
     λ t. record {
-      indexes = ap (λ (p : Picked). p.indexes) c.picked-got.ensures t;
+      indexes = ap (λ (p : Picked). p.indexes) is t;
       error = error t;
-      p = ap (λ (p : Picked). p.p) c.picked-got.ensures t;
+      p = ap (λ (p : Picked). p.p) is t;
     }

@@ -1,13 +1,12 @@
--- `proposals::offer_records` meets its contract. The invariant: the first k candidates were offered, and their refusals written.
-use Prim.Native.Nat.{◌+◌, ◌*◌, ◌-◌, ◌<◌}
-use native.Mathlib.Omega.{arith}
-use mathlib.Core.Path.{◌≡◌, refl, sym, ap, ◌∙◌}
+-- `proposals::offer_records` meets its contract.
+use Rattle.std.proofs.Common.{ℕ, ◌+◌, ◌*◌, ◌-◌, ◌<◌, ◌≡◌, List, map, length, refl, sym, ap, ◌∙◌, arith}
 use mathlib.Core.List.{map-map}
-use lib.ListN.{length}
-use borrow.Author.Rules.{rules}
+use lib.ListN.{length-map}
+use Rattle.std.proofs.lemmas.List.{map-set}
 use Rattle.lists.specs.Rows.{up_from, written}
 use Rattle.lists.proofs.Rows.{written_next, written_all}
-use Rattle.chooser.specs.declared.Offered.{Offered}
+use Rattle.refusals.specs.Numbers.{declined}
+use Rattle.chooser.specs.Answers.{Offered, offered}
 use Rattle.chooser.specs.OfferCall.{offer_refusal, offer_of}
 use Rattle.chooser.specs.Calls.{after}
 use Rattle.chooser.proofs.Calls.{offer-number}
@@ -17,24 +16,23 @@ use Rattle.proposals.proofs.offer_records.Goals as goal
 
 pub loop-k-init : goal.loop-k-init
 unfolding written candidates_in after
-loop-k-init c = (search rules, refl, refl, refl)
+loop-k-init c = (refl, refl)
 
 pub loop-k-preserved : goal.loop-k-preserved
 loop-k-preserved c =
     let at = c.loop-k in
-    let a = c.args in
+    let records : List ℕ = c.args.records.now in
+    let numbers : List ℕ = map declined c.args.answers.now in
     let whole : at.k * 16 + 16 - at.k * 16 ≡ 16 = omega arith in
     let d = c.candidate in
-    let read : d.result ≡ candidate_at a.records.now at.k = rw whole at d.ensures in
-    let offered : c.offer-offered.result ≡ offer_of at.held (candidate_at a.records.now at.k) =
-    c.offer-offered.ensures ∙ ap (offer_of at.held) read in
-    let number : c.offer-offered.result.refusal ≡ offer_refusal (candidate_at a.records.now at.k) =
-    ap (λ (o : Offered). o.refusal) offered ∙ offer-number at.held (candidate_at a.records.now at.k) in
-    let h : at.k < length a.refusals.now = omega arith in (
-      search rules,
-      search rules,
-      rw (at.invariant.2, number) (written_next 0 _ a.refusals.now at.k h),
-      ap (λ (o : Offered). o.chooser) offered ∙ records_next a.ch at.held a.records.now at.k at.invariant.3,
+    let read : d.result ≡ candidate_at records at.k = rw whole at d.ensures in
+    let answer : offered c.offer-given.result.0 c.offer-given.result.1 ≡ offer_of at.held (candidate_at records at.k) =
+    c.offer-given.ensures ∙ ap (offer_of at.held) read in
+    let number : declined c.offer-given.result.0 ≡ offer_refusal (candidate_at records at.k) =
+    ap (λ (o : Offered). o.refusal) answer ∙ offer-number at.held (candidate_at records at.k) in
+    let h : at.k < length numbers = rw length-map (omega arith) in (
+      rw (map-set declined at.answers at.k c.offer-given.result.0, at.invariant.0, number) (written_next 0 _ numbers at.k h),
+      ap (λ (o : Offered). o.chooser) answer ∙ records_next c.args.ch at.held records at.k at.invariant.1,
     )
 
 pub returns : goal.returns
@@ -42,10 +40,10 @@ unfolding candidates_in
 returns c =
     let at = c.loop-k in
     let a = c.args in
-    let e : at.k ≡ length a.refusals.now = omega arith in
-    let n = length a.refusals.now in (record {
-      answer = rw e at at.invariant.3;
-      part = rw e at at.invariant.2
-          ∙ written_all 0 _ a.refusals.now n refl
+    let n : ℕ = length a.answers.now in
+    let e : at.k ≡ n = omega arith in (record {
+      answer = rw e at at.invariant.1;
+      part = rw e at at.invariant.0
+          ∙ written_all 0 _ (map declined a.answers.now) n (simp length-map)
           ∙ sym (map-map offer_refusal (candidate_at a.records.now) (up_from 0 n));
     })

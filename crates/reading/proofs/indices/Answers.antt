@@ -8,47 +8,46 @@ use Rattle.lists.specs.Rows.{written}
 use Rattle.lists.specs.Bits.{split, field_at}
 use Rattle.lists.specs.Bytes.{number}
 use Rattle.lists.proofs.Rows.{written_next, written_all, listed}
-use Rattle.bptc.specs.Mode.{mode_numbered}
 use Rattle.bptc_block.specs.Fields.{index_width, widths}
 use Rattle.bptc_block.proofs.Packed.{indices-sixteen}
 use Rattle.bptc_block.proofs.Places.{place_inside, next-index, index_at}
-use Rattle.bptc_block.proofs.Modes.{lawful}
+use Rattle.bptc_block.proofs.Modes.{lawful_of, index-narrow}
 use Rattle.reading.proofs.indices.Goals as goal
 
 pub loop-i-init : goal.loop-i-init
 unfolding written
-loop-i-init c = (search rules, search rules, refl)
+loop-i-init g c = (search rules, refl)
 
 pub field-requires : goal.field-requires
-field-requires c =
+field-requires g c =
     record {
-      inside = omega (arith, place_inside (mode_numbered c.args.mode) c.args.partition (lawful c.args.mode).filling (15 + c.loop-i.i) (search rules));
+      inside = omega (arith, place_inside g.M.Mode.mode c.args.partition (lawful_of g.M.Mode.mode g.M.Mode.is_mode).filling (15 + c.loop-i.i) (search rules));
       few = search rules;
     }
 
 pub overflow_add-next : goal.overflow_add-next
-overflow_add-next c =
-    omega (arith, place_inside (mode_numbered c.args.mode) c.args.partition (lawful c.args.mode).filling (15 + c.loop-i.i) (search rules))
+overflow_add-next g c =
+    let m = g.M.Mode in
+    omega (arith, place_inside m.mode c.args.partition (lawful_of m.mode m.is_mode).filling (15 + c.loop-i.i) (search rules), c.INDEX_BITS.ensures, m.index_bits_are, index-narrow m.mode m.is_mode)
 
 pub loop-i-preserved : goal.loop-i-preserved
 unfolding index_width
-loop-i-preserved c =
+loop-i-preserved g c =
     let a = c.args in
     let at = c.loop-i in
-    let m = mode_numbered a.mode in
+    let m = g.M.Mode.mode in
     let n = number a.block.now in
     let h : at.i < 16 = omega arith in
-    let width : c.index_width-width.result ≡ index_width m a.partition at.i = rw (← c.index_bits-bits.ensures.0, ← c.anchor-place.ensures.0) c.index_width-width.ensures.0 in
-    let value : c.field.result ≡ get_or (drop 15 (split (widths m a.partition) n)) at.i 0 = c.field.ensures ∙ ap₂ (field_at n) at.invariant.1 width ∙ sym (index_at m a.partition n at.i h) in (
-      search rules,
-      ap₂ ◌+◌ at.invariant.1 width ∙ sym (next-index m a.partition at.i h),
-      rw (at.invariant.2, value) (written_next 0 _ (replicate 16 0) at.i h),
+    let width : c.index_width-width.result ≡ index_width m a.partition at.i = rw (c.INDEX_BITS.ensures, g.M.Mode.index_bits_are, c.anchor-place.ensures.0, c.from.ensures) at c.index_width-width.ensures.0 in
+    let value : c.field.result ≡ get_or (drop 15 (split (widths m a.partition) n)) at.i 0 = c.field.ensures ∙ ap₂ (field_at n) at.invariant.0 width ∙ sym (index_at m a.partition n at.i h) in (
+      ap₂ ◌+◌ at.invariant.0 width ∙ sym (next-index m a.partition at.i h),
+      rw (at.invariant.1, value) (written_next 0 _ (replicate 16 0) at.i h),
     )
 
 pub returns : goal.returns
-returns c =
+returns g c =
     let a = c.args in
     let e : c.loop-i.i ≡ 16 = omega arith in
-    rw e at c.loop-i.invariant.2
+    rw e at c.loop-i.invariant.1
     ∙ written_all 0 _ (replicate 16 0) 16 refl
-    ∙ listed 0 (drop 15 (split (widths (mode_numbered a.mode) a.partition) (number a.block.now))) 16 (indices-sixteen (mode_numbered a.mode) a.partition (number a.block.now))
+    ∙ listed 0 (drop 15 (split (widths (g.M.Mode.mode) a.partition) (number a.block.now))) 16 (indices-sixteen (g.M.Mode.mode) a.partition (number a.block.now))

@@ -1,63 +1,33 @@
 -- `bits::stream::write_fields` meets its contract.
 use native.Mathlib.Omega.{arith}
-use lib.Pow.{pow-lt}
-use mathlib.Core.Path.{◌≡◌, ◌∙◌}
-use Prim.Native.Nat.{◌+◌, ◌*◌, ◌-◌, ◌^◌, ◌≤◌, ◌<◌}
 use native.Mathlib.Nat.{zero-add, mul-one}
-use Rattle.lists.specs.Bits.{halves}
+use Prim.Native.Nat.{ℕ, ◌*◌, ◌-◌, ◌^◌}
+use mathlib.Core.Path.{◌≡◌, ap, ◌∙◌}
+use mathlib.Core.List.{map}
+use lib.ListN.{length-map}
+use borrow.Author.Rules.{rules}
+use Rattle.bptc.specs.Pixels.{pixel_of}
 use Rattle.bptc_block.proofs.Widths.{front_steps}
+use Rattle.bptc_block.proofs.Modes.{lawful_of}
 use Rattle.bptc_rust.proofs.Digits.{one_shl}
-use Rattle.bits.proofs.stream.write_fields.Goals.{After-write_u64-mode}
 use Rattle.bits.proofs.stream.write_fields.Goals as goal
 
--- after the mode's bits
-module _ (m : After-write_u64-mode) where
-  -- they are one more than its number
-  first-place : m.write_u64-mode.result.bits ≡ m.args.number + 1
-  first-place = m.write_u64-mode.ensures.place ∙ rw (m.new.ensures, zero-add)
-
-  -- and the number is a single bit
-  first-number : halves m.write_u64-mode.result.low m.write_u64-mode.result.high ≡ 2 ^ m.args.number
-  first-number = m.write_u64-mode.ensures.same ∙ rw (m.new.ensures, one_shl 64 m.args.number (omega (arith, m.requires.low)), mul-one, zero-add)
-
-pub write_u64-mode-requires : goal.write_u64-mode-requires
-write_u64-mode-requires c =
-    let n = c.args.number in
-    rw (c.new.ensures, one_shl 64 n (omega arith)) (record { above = omega arith; fits = pow-lt {i = n} {j = n + 1} (omega arith); some = omega arith; room = omega arith })
-
-pub write_u64-front-requires : goal.write_u64-front-requires
-write_u64-front-requires c =
-    let room : c.write_u64-mode.result.bits + 6 ≤ 128 = omega (arith, first-place (goal.at.write_u64-front-requires c).After-write_u64-mode, c.requires.low) in
-    record { above = c.write_u64-mode.ensures.above; fits = c.requires.inside; some = omega arith; room = room }
-
-pub write_endpoints_rgb-stored-requires : goal.write_endpoints_rgb-stored-requires
-write_endpoints_rgb-stored-requires c =
-    let room : c.write_u64-front.result.bits + 12 * c.args.bits ≤ 128 = omega (arith, first-place (goal.at.write_endpoints_rgb-stored-requires c).After-write_u64-mode, c.write_u64-front.ensures.place, c.requires.room) in
-    record {
-      above = c.write_u64-front.ensures.above;
-      some = c.requires.wide;
-      few = c.requires.few;
-      four = c.requires.four;
-      channels = c.requires.channels;
-      room = room;
-    }
-
-pub write_u64-own-requires : goal.write_u64-own-requires
-write_u64-own-requires c =
-    let room : c.write_endpoints_rgb-stored.result.bits + c.args.p_bits ≤ 128 =
-    omega (arith, first-place (goal.at.write_u64-own-requires c).After-write_u64-mode, c.write_u64-front.ensures.place, c.write_endpoints_rgb-stored.ensures.place, c.requires.room) in
-    record { above = c.write_endpoints_rgb-stored.ensures.above; fits = c.requires.own; some = c.requires.two; room = room }
-
-pub write_u64-requires : goal.write_u64-requires
-write_u64-requires c =
-    let wide : 0 < 16 * c.args.index_bits - 2 = omega (arith, c.requires.some) in
-    let room : c.write_u64-own.result.bits + (16 * c.args.index_bits - 2) ≤ 128 =
-    omega (arith, first-place (goal.at.write_u64-requires c).After-write_u64-mode, c.write_u64-front.ensures.place, c.write_endpoints_rgb-stored.ensures.place, c.write_u64-own.ensures.place, c.requires.room) in
-    record { above = c.write_u64-own.ensures.above; fits = c.requires.rest; some = wide; room = room }
+pub write_endpoints_rgb-stored-requires-clause-channels : goal.write_endpoints_rgb-stored-requires-clause-channels
+write_endpoints_rgb-stored-requires-clause-channels g c = rw (c.endpoints-ends.ensures, c.CHANNEL_BITS.ensures, g.M.Mode.channel_bits_are) c.requires.stored
 
 pub returns : goal.returns
-returns c =
-    let a = c.args in
-    front_steps a.number a.bits a.p_bits (16 * a.index_bits - 2) a.partition a.p a.indexes a.ends c.requires.four
-    (first-number (goal.at.returns c).After-write_u64-mode) (first-place (goal.at.returns c).After-write_u64-mode) c.write_u64-front.ensures.same c.write_u64-front.ensures.place c.write_endpoints_rgb-stored.ensures.same
-    c.write_endpoints_rgb-stored.ensures.place c.write_u64-own.ensures.same c.write_u64-own.ensures.place c.write_u64.ensures.same
+returns g c =
+    let m = g.M.Mode in
+    let a = c.args.w in
+    let number : c.from-number.result ≡ m.mode.number = c.from-number.ensures ∙ c.NUMBER.ensures ∙ m.number_is in
+    let channels : c.CHANNEL_BITS.result ≡ m.mode.channel_bits = c.CHANNEL_BITS.ensures ∙ m.channel_bits_are in
+    let own : c.P_BITS.result ≡ m.mode.p_bits = c.P_BITS.ensures ∙ m.p_bits_are in
+    let last : 16 * c.INDEX_BITS.result - 2 ≡ 16 * m.mode.index_bits - 2 = ap (λ (n : ℕ). 16 * n - 2) (c.INDEX_BITS.ensures ∙ m.index_bits_are) in
+    let mode = c.write_u64-mode in
+    let stored = c.write_endpoints_rgb-stored in
+    let first : mode.result.data ≡ 2 ^ m.mode.number =
+    mode.ensures.same ∙ rw (c.new.ensures.none, c.new.ensures.start, number, one_shl 64 m.mode.number (omega (arith, (lawful_of m.mode m.is_mode).filling.low)), mul-one, zero-add) in
+    front_steps m.mode.number m.mode.channel_bits m.mode.p_bits (16 * m.mode.index_bits - 2) a.partition a.p a.indexes (map pixel_of a.ends) (length-map a.ends pixel_of ∙ search rules)
+    first (mode.ensures.place ∙ rw (c.new.ensures.start, number, zero-add)) (rw c.from.ensures at c.write_u64-front.ensures.same) c.write_u64-front.ensures.place
+    (rw (channels, c.endpoints-ends.ensures) at stored.ensures.same) (rw channels at stored.ensures.place)
+    (rw c.from-2.ensures at c.write_u64-own.ensures.same) (rw own at c.write_u64-own.ensures.place) c.write_u64.ensures.same

@@ -1,5 +1,5 @@
 -- `block::colours::colours` meets its contract. The invariant: the first i colours are written.
-use Prim.Native.Nat.{ℕ, ◌-◌, ◌≤◌}
+use Prim.Native.Nat.{ℕ}
 use mathlib.Core.Path.{◌≡◌}
 use lib.ListN.{get_or, replicate}
 use Rattle.lists.specs.Rows.{written}
@@ -10,7 +10,4 @@ use Rattle.bptc.specs.Palette.{word_at}
 use Rattle.block.proofs.colours.colours.Given as goal
 
 abbrev pub invariant-loop-i : goal.invariant-loop-i
-invariant-loop-i l = (l.i ≤ 16) × (l.out ≡ written (λ (i : ℕ). pixel_of (word_at l.rows (bit l.subsets i) (get_or l.indices i 0))) l.i (replicate 16 black))
-
-abbrev pub decreases-loop-i : goal.decreases-loop-i
-decreases-loop-i l = 16 - l.i
+invariant-loop-i g l = l.out ≡ written (λ (i : ℕ). pixel_of (word_at l.rows (bit l.subsets i) (get_or l.f.indices i 0))) l.i (replicate 16 black)

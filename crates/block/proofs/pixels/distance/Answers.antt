@@ -10,7 +10,7 @@ use Rattle.bptc.specs.Colour.{black, colours_of, dist_sq}
 use Rattle.block.proofs.pixels.distance.Goals as goal
 
 pub loop-i-init : goal.loop-i-init
-loop-i-init c = (search rules, refl, search rules)
+loop-i-init c = (refl, search rules)
 
 pub loop-i-preserved : goal.loop-i-preserved
 loop-i-preserved c =
@@ -18,10 +18,10 @@ loop-i-preserved c =
     let at = c.loop-i in
     let apart : ℕ → ℕ = λ (i : ℕ). dist_sq (get_or (colours_of a.pixels.now) i black) (get_or a.colours i black) in
     let own : c.dist_sq-sum.result ≡ apart at.i = rw (← c.pixel_at.ensures) c.dist_sq-sum.ensures.0 in
-    (search rules, ap₂ ◌+◌ at.invariant.1 own ∙ sym (sum_to-suc apart at.i), search rules)
+    (ap₂ ◌+◌ at.invariant.0 own ∙ sym (sum_to-suc apart at.i), search rules)
 
 pub returns : goal.returns
 unfolding over_pixels
 returns c =
     let e : c.loop-i.i ≡ 16 = omega arith in
-    rw e at c.loop-i.invariant.1
+    rw e at c.loop-i.invariant.0

@@ -10,7 +10,7 @@ use Rattle.block.proofs.pixels.write_pixels.Goals as goal
 
 pub loop-i-init : goal.loop-i-init
 unfolding written
-loop-i-init c = (search rules, search rules, refl)
+loop-i-init c = (search rules, refl)
 
 pub bounds-pixels-i-in-loop-i : goal.bounds-pixels-i-in-loop-i
 bounds-pixels-i-in-loop-i c = simp length-set (omega arith)
@@ -21,9 +21,9 @@ bounds-pixels-i-in-loop-i-2 c = simp length-set (omega arith)
 pub loop-i-preserved : goal.loop-i-preserved
 loop-i-preserved c =
     let at = c.loop-i in
-    (search rules, simp length-set at.invariant.1, rw at.invariant.2 (written-pixel c.args.colours c.args.pixels.now at.i (omega arith) (omega arith)))
+    (simp length-set at.invariant.0, rw at.invariant.1 (written-pixel c.args.colours c.args.pixels.now at.i (omega arith) (omega arith)))
 
 pub returns : goal.returns
 returns c =
     let e : c.loop-i.i * 3 ≡ length c.args.pixels.now = omega arith in
-    rw e at c.loop-i.invariant.2 ∙ written-pixels c.args.colours c.args.pixels.now (omega arith)
+    rw e at c.loop-i.invariant.1 ∙ written-pixels c.args.colours c.args.pixels.now (omega arith)

@@ -7,5 +7,5 @@ use Rattle.choices.proofs.best.best4.Goals as goal
 pub returns : goal.returns
 returns c =
     let s = c.args.s in
-    let r = best_four (λ (k : ℕ). get_or s k 0) _ _ _ _ _ _ c.either-m.ensures.0 c.either-i.ensures.0 c.either-n.ensures.0 c.either-j.ensures.0 c.either-2.ensures.0 c.either.ensures.0 in
+    let r = best_four (λ (k : ℕ). get_or s k 0) _ _ _ _ _ _ c.either-m.ensures c.either-i.ensures c.either-n.ensures c.either-j.ensures c.either-2.ensures c.either.ensures in
     (record { at = r.0; sum = r.1; four = r.2 })

@@ -6,5 +6,5 @@ use Rattle.chooser.proofs.Chooser.accept.Goals as goal
 
 pub returns : goal.returns
 returns c =
-    let k = word_candidate c.args.mode c.args.partition c.args.ends c.args.p in
+    let k = word_candidate c.args.candidate in
     rw (c.better.ensures, c.finish_words-error.ensures.error, c.finish_words-error.ensures.part, gives_finished c.args.self.pixels k (search rules) c.requires)

@@ -16,4 +16,4 @@ pub returns : goal.returns
 returns c =
     let px = c.args.pixels.now in
     let own : length px ≡ 48 = omega arith in
-    rw (c.empty-2.ensures, c.copy.ensures, start-answer px, started_own px own, eq-eqb (length px) 48 own)
+    rw (c.empty-2.ensures, c.copy_from_slice.ensures.after, start-answer px, started_own px own, eq-eqb (length px) 48 own)

@@ -1,5 +1,4 @@
--- `closest::indexes::sum` meets its contract. The invariant: the sum over the first i pixels.
-use borrow.Author.Rules.{rules}
+-- `closest::indexes::sum` meets its contract. The invariant: the sum over the pixels so far.
 use native.Mathlib.Omega.{arith}
 use Prim.Native.Nat.{ℕ, ◌+◌, ◌/◌}
 use mathlib.Core.Path.{◌≡◌, refl, sym, ap, ◌∙◌}
@@ -8,21 +7,18 @@ use Rattle.lists.specs.Rows.{over_pixels}
 use Rattle.lists.proofs.Sums.{sum_to-suc}
 use Rattle.closest.proofs.indexes.sum.Goals as goal
 
-pub loop-i-init : goal.loop-i-init
-loop-i-init c = (search rules, refl, search rules)
-
 pub overflow_add-all : goal.overflow_add-all
-overflow_add-all c = omega (arith, c.requires c.loop-i.i)
+overflow_add-all c = omega (arith, c.requires c.loop-key.key-index)
 
-pub loop-i-preserved : goal.loop-i-preserved
-loop-i-preserved c =
-    let at = c.loop-i in
+pub loop-key-preserved : goal.loop-key-preserved
+loop-key-preserved c =
+    let at = c.loop-key in
     let best = c.args.best.now in
-    (search rules, ap (λ (n : ℕ). n + get_or best at.i 0 / 8) at.invariant.1 ∙ sym (sum_to-suc _ at.i), omega (arith, c.requires at.i))
+    (ap (λ (n : ℕ). n + get_or best at.key-index 0 / 8) at.invariant.0 ∙ sym (sum_to-suc _ at.key-index), omega (arith, c.requires at.key-index))
 
 pub returns : goal.returns
 unfolding over_pixels
 returns c =
-    let at = c.loop-i in
-    let e : at.i ≡ 16 = omega arith in
-    rw e at at.invariant.1
+    let at = c.loop-key in
+    let e : at.key-index ≡ 16 = omega arith in
+    rw e at at.invariant.0

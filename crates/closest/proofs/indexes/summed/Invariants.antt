@@ -14,6 +14,3 @@ invariant-loop-i l =
     × (l.all ≡ sum_to (λ (k : ℕ). get_or l.best k 0 / 8) l.i)
     × (l.second ≡ sum_to (λ (k : ℕ). pick (eqb (bit l.mask k) 1) (get_or l.best k 0 / 8) 0) l.i)
     × ((l.all ≤ l.i * (2 ^ 20)) × (l.second ≤ l.i * (2 ^ 20)))
-
-abbrev pub decreases-loop-i : goal.decreases-loop-i
-decreases-loop-i l = 16 - l.i

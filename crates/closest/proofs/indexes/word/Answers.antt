@@ -6,19 +6,19 @@ use native.Mathlib.Nat.{mul_comm, mod-eq_of_lt}
 use mathlib.Core.Path.{◌≡◌, refl, ap, ap₂, ◌∙◌}
 use lib.Pow.{pow_pos}
 use Rattle.lists.specs.Bits.{join}
-use Rattle.closest.proofs.Joining.{joined-next, digit_next, halves_room, joined-halves}
+use Rattle.closest.proofs.Joining.{joined-next, power_is, digit_next, halves_room, joined-halves}
 use Rattle.closest.proofs.indexes.word.Goals.{After-loop-i, In-loop-i}
 use Rattle.closest.proofs.indexes.word.Invariants.{index}
 use Rattle.closest.proofs.indexes.word.Goals as goal
 
 -- the factor of a digit
-size : (c : In-loop-i) → c.power-size.result ≡ 2 ^ c.args.bits
-size c = c.power-size.ensures
+size : (c : In-loop-i) → 1 * 2 ^ c.args.bits % 2 ^ 32 ≡ 2 ^ c.args.bits
+size c = power_is c.args.bits (omega arith)
 
 -- one digit more fits
 next : (c : In-loop-i) (n x : ℕ) → n < 2 ^ (c.args.bits * c.loop-i.i) →
-    (n * c.power-size.result + x % c.power-size.result < 2 ^ (c.args.bits * (c.loop-i.i + 1)))
-    × (n * c.power-size.result + x % c.power-size.result < 2 ^ 32)
+    (n * (1 * 2 ^ c.args.bits % 2 ^ 32) + x % (1 * 2 ^ c.args.bits % 2 ^ 32) < 2 ^ (c.args.bits * (c.loop-i.i + 1)))
+    × (n * (1 * 2 ^ c.args.bits % 2 ^ 32) + x % (1 * 2 ^ c.args.bits % 2 ^ 32) < 2 ^ 32)
 next c n x h = rw (size c) (digit_next c.args.bits c.loop-i.i n x (omega arith) (omega arith) h)
 
 -- after the loop there is room for both halves
@@ -69,22 +69,16 @@ loop-i-preserved c =
       ),
     )
 
-pub overflow_cast-result : goal.overflow_cast-result
-overflow_cast-result c = record { fits = omega (arith, (both (goal.at.overflow_cast-result c).After-loop-i).0) }
-
-pub overflow_cast-result-2 : goal.overflow_cast-result-2
-overflow_cast-result-2 c = record { fits = omega (arith, (both (goal.at.overflow_cast-result-2 c).After-loop-i).1) }
-
 pub overflow_shl-result : goal.overflow_shl-result
 overflow_shl-result c = omega arith
 
 pub overflow_add-result : goal.overflow_add-result
-overflow_add-result c = record { fits = rw (mod-eq_of_lt (both (goal.at.overflow_add-result c).After-loop-i).2) (both (goal.at.overflow_add-result c).After-loop-i).3 }
+overflow_add-result c = record { fits = rw (c.from.ensures, c.from-2.ensures, mod-eq_of_lt (both (goal.at.overflow_add-result c).After-loop-i).2) (both (goal.at.overflow_add-result c).After-loop-i).3 }
 
 pub returns : goal.returns
 returns c =
     let at = c.loop-i in
     let a = c.args in
     let e : at.i ≡ 8 = omega arith in
-    rw (mod-eq_of_lt (both (goal.at.returns c).After-loop-i).2, mul_comm 8 a.bits)
+    rw (c.from.ensures, c.from-2.ensures, mod-eq_of_lt (both (goal.at.returns c).After-loop-i).2, mul_comm 8 a.bits)
     (ap₂ (λ (x y : ℕ). x + y * 2 ^ (a.bits * 8)) (rw e at at.invariant.1.0) (rw e at at.invariant.2.0) ∙ joined-halves a.bits (index a.bits a.best.now))

@@ -15,6 +15,3 @@ invariant-loop-i l =
     (l.i ≤ 8)
     × ((l.lo ≡ joined_from l.bits (index l.bits l.best) (8 - l.i) l.i) × (l.lo < 2 ^ (l.bits * l.i)))
     × ((l.hi ≡ joined_from l.bits (index l.bits l.best) (16 - l.i) l.i) × (l.hi < 2 ^ (l.bits * l.i)))
-
-abbrev pub decreases-loop-i : goal.decreases-loop-i
-decreases-loop-i l = 8 - l.i

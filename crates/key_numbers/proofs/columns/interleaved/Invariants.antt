@@ -9,6 +9,3 @@ use Rattle.key_numbers.proofs.columns.interleaved.Given as goal
 abbrev pub invariant-loop-j : goal.invariant-loop-j
 invariant-loop-j l =
     (l.j ≤ 4) × (l.out ≡ written (column_words l.a l.b l.c l.d) (l.j * 4) (replicate 16 0))
-
-abbrev pub decreases-loop-j : goal.decreases-loop-j
-decreases-loop-j l = 4 - l.j

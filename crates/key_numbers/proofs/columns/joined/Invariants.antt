@@ -9,6 +9,3 @@ use Rattle.key_numbers.proofs.columns.joined.Given as goal
 abbrev pub invariant-loop-k : goal.invariant-loop-k
 invariant-loop-k l =
     (l.k ≤ 16) × (l.out ≡ written (λ (k : ℕ). get_or l.first k 0) l.k (replicate 16 0) ++ written (λ (k : ℕ). get_or l.second k 0) l.k (replicate 16 0))
-
-abbrev pub decreases-loop-k : goal.decreases-loop-k
-decreases-loop-k l = 16 - l.k

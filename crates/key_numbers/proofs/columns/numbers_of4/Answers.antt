@@ -11,6 +11,6 @@ use Rattle.key_numbers.proofs.columns.numbers_of4.Goals as goal
 pub returns : goal.returns
 unfolding flat_columns
 returns c =
-    c.numbers4.ensures
+    c.numbers.ensures
     ∙ ap (λ (ws : List ℕ). numbers_of 8 32 (λ (k : ℕ). pixel_of (get_or ws k 0)) (λ (k : ℕ). k / 4 % 4))
-    (c.joined-words.ensures ∙ ap₂ (λ (first second : List ℕ). map (joined_rows first second) (up_from 0 32)) c.interleaved-first.ensures c.interleaved-second.ensures)
+    (c.joined.ensures ∙ ap₂ (λ (first second : List ℕ). map (joined_rows first second) (up_from 0 32)) c.interleaved-first.ensures c.interleaved-second.ensures)

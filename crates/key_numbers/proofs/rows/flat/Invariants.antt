@@ -14,6 +14,3 @@ number row k = (get_or row k (record { 0 = 0 })).0
 abbrev pub invariant-loop-k : goal.invariant-loop-k
 invariant-loop-k l =
     (l.k ≤ 8) × (l.out ≡ written (number l.p0) l.k (replicate 8 0) ++ written (number l.p1) l.k (replicate 8 0))
-
-abbrev pub decreases-loop-k : goal.decreases-loop-k
-decreases-loop-k l = 8 - l.k

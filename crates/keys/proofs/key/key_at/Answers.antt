@@ -17,4 +17,4 @@ key-requires c =
 pub returns : goal.returns
 unfolding key_at
 returns c =
-    (c.key.ensures.0 ∙ simp (c.wide.ensures.0, c.wide-2.ensures.0, c.wide-3.ensures.0), c.key.ensures.1)
+    (c.key.ensures.0 ∙ simp (c.from.ensures, c.from-2.ensures, c.from-3.ensures), c.key.ensures.1)

@@ -17,6 +17,3 @@ row_to weights a b k = written (λ (i : ℕ). colour (both (blend (get_or weight
 abbrev pub invariant-loop-k : goal.invariant-loop-k
 invariant-loop-k l =
     (l.k ≤ l.colours) × (l.first ≡ row_to l.weights l.e0 l.e1 l.k) × (l.second ≡ row_to l.weights l.e2 l.e3 l.k)
-
-abbrev pub decreases-loop-k : goal.decreases-loop-k
-decreases-loop-k l = l.colours - l.k

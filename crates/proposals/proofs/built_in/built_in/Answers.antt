@@ -1,7 +1,5 @@
--- `proposals::built_in::built_in` meets its contract. The invariant: the proposals of the first partitions were offered.
-use borrow.Author.Rules.{rules}
-use native.Mathlib.Omega.{arith}
-use mathlib.Core.Path.{◌≡◌, refl, sym, ap, ◌∙◌}
+-- `proposals::built_in::built_in` meets its contract.
+use Rattle.std.proofs.Common.{◌≡◌, refl, sym, ap, ◌∙◌, arith}
 use Rattle.lists.specs.Parts.{joined}
 use Rattle.chooser.specs.declared.Chooser.{Chooser}
 use Rattle.chooser.specs.Calls.{after}
@@ -12,22 +10,21 @@ use Rattle.proposals.proofs.built_in.built_in.Goals as goal
 
 pub loop-partition-init : goal.loop-partition-init
 unfolding after joined
-loop-partition-init c = (search rules, refl)
+loop-partition-init c = refl
 
 pub offer_both-held-requires : goal.offer_both-held-requires
 offer_both-held-requires c =
     let at = c.loop-partition in
     let ch = c.args.ch in
-    c.planes_of-apart.ensures ∙ ap planes_of (sym (ap (λ (h : Chooser). h.pixels) at.invariant.1 ∙ after-pixels (proposals_to ch.pixels at.partition) ch))
+    c.of-planes.ensures ∙ ap planes_of (sym (ap (λ (h : Chooser). h.pixels) at.invariant ∙ after-pixels (proposals_to ch.pixels at.partition) ch))
 
 pub loop-partition-preserved : goal.loop-partition-preserved
 loop-partition-preserved c =
     let at = c.loop-partition in
-    let ch = c.args.ch in
-    (search rules, c.offer_both-held.ensures ∙ proposals_next ch at.held at.partition at.invariant.1)
+    c.offer_both-held.ensures ∙ proposals_next c.args.ch at.held at.partition at.invariant
 
 pub returns : goal.returns
 unfolding proposals_of
 returns c =
     let e : c.loop-partition.partition ≡ 64 = omega arith in
-    rw e at c.loop-partition.invariant.1
+    rw e at c.loop-partition.invariant

@@ -1,45 +1,17 @@
--- `proposals::records::flags_good` meets its contract. The invariant: the first k records are tested.
-use Prim.Native.Nat.{ℕ, ◌+◌}
-use native.Mathlib.Nat.{zero-add}
-use native.Mathlib.Numerals.{add-one}
-use native.Mathlib.Omega.{arith}
-use mathlib.Core.Path.{◌≡◌, refl, sym, ap, ◌∙◌}
-use mathlib.Core.Bool.{Bool}
-use mathlib.Core.List.{List}
-use lib.ListN.{take}
-use lib.Seq.{take_all}
-use borrow.Author.Rules.{rules}
-use Rattle.lists.specs.Rows.{up_from}
-use Rattle.lists.specs.Tests.{and, all}
-use Rattle.lists.proofs.Rows.{length-up_from, get_or-up_from}
-use Rattle.lists.proofs.Tests.{and-passes, and_stops, all-next}
-use Rattle.proposals.specs.Records.{flag_good}
-use Rattle.proposals.proofs.records.flags_good.Goals.{then-good, else-good}
+-- `proposals::records::flags_good` meets its contract.
+use Rattle.std.proofs.Common.{sym, ◌∙◌}
+use borrow.Author.Tests.{le-leb, lt-leb}
+use Rattle.proposals.proofs.Flags.{flags_next}
 use Rattle.proposals.proofs.records.flags_good.Goals as goal
 
-pub loop-k-init : goal.loop-k-init
-loop-k-init c = (search rules, refl)
+pub returns-then-record-gt1 : goal.returns-then-record-gt1
+returns-then-record-gt1 c =
+    let inv = c.loop-record.invariant in
+    let step = c.in-Some.ensures.steps in
+    sym (inv.1 ∙ flags_next _ _ _ step.1.0 (step.1.1 ∙ inv.0) ∙ simp (lt-leb _ _ c.if-record-gt1.true))
 
-pub loop-k-preserved : goal.loop-k-preserved
-loop-k-preserved c =
-    let at = c.loop-k in
-    let a = c.args in
-    let test : ℕ → Bool = flag_good a.records.now in
-    let row : List ℕ = up_from 0 a.n in
-    let own = get_or-up_from a.n 0 at.k 0 (omega arith) ∙ zero-add at.k in
-    let next = all-next test row at.k (rw length-up_from (omega arith)) in
-    let e : and at.good (test at.k) ≡ all test (take (at.k + 1) row) =
-    rw add-one (ap (λ t. and t (test at.k)) at.invariant.1 ∙ sym (rw own at next)) in (
-      search rules,
-      elim c.if-good.branch [
-        | then-good w ↦ w.good-is ∙ sym (and-passes at.good (test at.k) w.if-good.true) ∙ e
-        | else-good w ↦ w.good-is ∙ sym (and_stops at.good (test at.k) w.if-good.false) ∙ e
-      ],
-    )
-
-pub returns : goal.returns
-returns c =
-    let at = c.loop-k in
-    let a = c.args in
-    let all_of : take at.k (up_from 0 a.n) ≡ up_from 0 a.n = take_all at.k (up_from 0 a.n) (rw length-up_from (omega arith)) in
-    at.invariant.1 ∙ ap (all (flag_good a.records.now)) all_of
+pub loop-record-preserved : goal.loop-record-preserved
+loop-record-preserved c =
+    let inv = c.loop-record.invariant in
+    let step = c.in-Some.ensures.steps in
+    (step.0 ∙ inv.0, inv.1 ∙ flags_next _ _ _ step.1.0 (step.1.1 ∙ inv.0) ∙ simp (le-leb _ _ c.if-record-gt1.false))

@@ -1,14 +1,10 @@
--- `proposals::records::flags_good` meets its contract. The invariant: the first k records are tested.
-use Prim.Native.Nat.{◌-◌, ◌≤◌}
-use mathlib.Core.Path.{◌≡◌}
-use lib.ListN.{take}
-use Rattle.lists.specs.Rows.{up_from}
-use Rattle.lists.specs.Tests.{all}
-use Rattle.proposals.specs.Records.{flag_good}
+-- `proposals::records::flags_good` meets its contract. The invariant: the flags of the records left decide it.
+use Rattle.std.proofs.Common.{◌≡◌, ◌/◌, length}
+use Rattle.std.specs.Slice.Iter.{chunks_exact_rest, chunks_exact_size}
+use Rattle.proposals.specs.Records.{flags_good}
 use Rattle.proposals.proofs.records.flags_good.Given as goal
 
-abbrev pub invariant-loop-k : goal.invariant-loop-k
-invariant-loop-k l = (l.k ≤ l.n) × (l.good ≡ all (flag_good l.records) (take l.k (up_from 0 l.n)))
-
-abbrev pub decreases-loop-k : goal.decreases-loop-k
-decreases-loop-k l = l.n - l.k
+abbrev pub invariant-loop-record : goal.invariant-loop-record
+invariant-loop-record l =
+    (chunks_exact_size l.record-iterator ≡ 16)
+    × (flags_good l.records (length l.records / 16) ≡ flags_good (chunks_exact_rest l.record-iterator) (length (chunks_exact_rest l.record-iterator) / 16))

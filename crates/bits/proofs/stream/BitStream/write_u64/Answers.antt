@@ -1,41 +1,28 @@
 -- `bits::stream::BitStream::write_u64` meets its contract.
-use Prim.Native.Nat.{◌^◌, ◌≤◌}
-use native.Mathlib.Nat.{zero-add}
+use Prim.Native.Nat.{ℕ, ◌+◌, ◌*◌, ◌%◌, ◌^◌, ◌≤◌, ◌<◌}
+use native.Mathlib.Nat.{lt_of_lt_of_le}
 use native.Mathlib.Omega.{arith}
-use lib.Pow.{pow_mono}
-use mathlib.Core.Path.{◌≡◌, refl}
-use Rattle.lists.specs.Bits.{halves}
-use Rattle.lists.proofs.Halves.{above_lt, low_room, low-write, high_room, high_write}
+use mathlib.Core.Path.{◌≡◌}
+use lib.Pow.{pow_mono, shl_exact}
+use Rattle.lists.proofs.Halves.{above_lt}
 use Rattle.bits.proofs.stream.BitStream.write_u64.Goals as goal
+
+-- a value of `bits` bits is not cut off by a shift
+whole : (v w at bits : ℕ) → w < 2 ^ bits → v ≡ w → at + bits ≤ 128 → v * 2 ^ at % 2 ^ 128 ≡ w * 2 ^ at
+whole v w at bits k e room = rw e (shl_exact bits at 128 k (omega arith))
 
 pub overflow_add-result : goal.overflow_add-result
 overflow_add-result c =
     let a = c.args in
-    record { fits = low_room a.self.low a.value a.self.bits (omega (arith, c.requires.above)) (omega arith) }
+    rw (whole c.from.result a.value a.self.bits a.bits c.requires.fits c.from.ensures c.requires.room)
+    (record { fits = lt_of_lt_of_le (above_lt a.self.data a.value a.self.bits a.bits a.self.above c.requires.fits) (pow_mono {j = 128} c.requires.room) })
 
-pub overflow_add-result-else-at-lt64 : goal.overflow_add-result-else-at-lt64
-overflow_add-result-else-at-lt64 c =
+pub invariant_of-result : goal.invariant_of-result
+invariant_of-result c =
     let a = c.args in
-    record { fits = high_room a.self.low a.self.high a.value a.self.bits a.bits c.requires.above c.requires.fits (omega arith) c.requires.room }
+    record { above = rw (whole c.from.result a.value a.self.bits a.bits c.requires.fits c.from.ensures c.requires.room) (above_lt a.self.data a.value a.self.bits a.bits a.self.above c.requires.fits) }
 
-pub returns-then-at-lt64 : goal.returns-then-at-lt64
-returns-then-at-lt64 c =
+pub returns-clause-same : goal.returns-clause-same
+returns-clause-same c =
     let a = c.args in
-    let top : 2 ^ a.self.bits ≤ 2 ^ 63 = pow_mono {j = 63} (omega arith) in
-    let none : a.self.high ≡ 0 = omega (arith, c.requires.above, top) in
-    let same = low-write a.self.low a.value a.self.bits (omega (arith, c.requires.above)) (omega arith) in
-    rw (same, none, zero-add) (record {
-      same = refl;
-      above = above_lt a.self.low a.value a.self.bits a.bits (omega (arith, c.requires.above)) c.requires.fits;
-      place = refl;
-    })
-
-pub returns-else-at-lt64 : goal.returns-else-at-lt64
-returns-else-at-lt64 c =
-    let a = c.args in
-    let same = high_write a.self.low a.self.high a.value a.self.bits a.bits c.requires.above c.requires.fits (omega arith) c.requires.room in
-    rw same (record {
-      same = refl;
-      above = above_lt (halves a.self.low a.self.high) a.value a.self.bits a.bits c.requires.above c.requires.fits;
-      place = refl;
-    })
+    rw (whole c.from.result a.value a.self.bits a.bits c.requires.fits c.from.ensures c.requires.room)

@@ -1,0 +1,42 @@
+-- `bits::writing::write_words` meets its contract.
+use Prim.Native.Nat.{ℕ, ◌*◌, ◌^◌, ◌<◌}
+use mathlib.Core.Path.{◌≡◌, sym, ◌∙◌}
+use mathlib.Core.Bool.{Bool}
+use mathlib.Core.List.{List, map}
+use Rattle.bptc.specs.declared.Rgb.{Rgb}
+use Rattle.bptc.specs.Mode.{Mode, IsMode}
+use Rattle.bptc.specs.Pixels.{pixel_of}
+use Rattle.bptc_block.specs.declared.Words.{Words}
+use Rattle.bptc_block.specs.Fields.{Plain, word_fields}
+use Rattle.bptc_block.specs.Exchange.{swapped_ends, exchanged_both}
+use Rattle.bptc_block.proofs.Modes.{lawful_of, index-narrow}
+use Rattle.bptc_rust.specs.CompressedIndexList.{compress_p2}
+use Rattle.bptc_rust.specs.Subset2Map.{PARTITION-SET-2}
+use Rattle.bptc_rust.proofs.Digits.{split_list}
+use Rattle.bptc_rust.proofs.Masks.{masks_in}
+use Rattle.bptc_rust.proofs.Writing.{Ready, ready}
+use Rattle.bits.proofs.writing.write_words.Goals as goal
+
+-- what is written: the compressed fields
+made : (m : Mode) → IsMode m → (w : Words) → Plain m (word_fields m.index_bits w) → w.indexes < 2 ^ (16 * m.index_bits) →
+    {n p part : ℕ} {t u : Bool} {ends : List Rgb} → part ≡ w.partition → n ≡ (compress_p2 m.index_bits w.indexes (PARTITION-SET-2 part)).0.compressed_indexes →
+    t ≡ (compress_p2 m.index_bits w.indexes (PARTITION-SET-2 part)).1 → u ≡ (compress_p2 m.index_bits w.indexes (PARTITION-SET-2 part)).2 →
+    ends ≡ swapped_ends (map pixel_of w.ends) t u → p ≡ exchanged_both m t u w.p → Ready m (word_fields m.index_bits w) ends p n
+made m known w plain small {n} {p} {part} {t} {u} same e₀ e₁ e₂ ends bits =
+    let f = word_fields m.index_bits w in
+    rw ends
+    (ready m (lawful_of m known) (masks_in m known) f plain w.indexes (sym (split_list m.index_bits (index-narrow m known).1 w.indexes small)) t u n p (rw same at e₀) (rw same at e₁) (rw same at e₂) bits)
+
+pub write_fields-bits-requires : goal.write_fields-bits-requires
+write_fields-bits-requires g c =
+    let m = g.M.Mode in
+    let q = c.compress_p2-indexes.ensures in
+    let r = made m.mode m.is_mode c.args.w c.requires.plain c.requires.list c.from.ensures q.same q.first q.second c.swapped.ensures c.exchanged_bits.ensures in
+    record { inside = c.requires.plain.partition; stored = r.channels; own = r.own; rest = r.rest }
+
+pub returns : goal.returns
+returns g c =
+    let m = g.M.Mode in
+    let q = c.compress_p2-indexes.ensures in
+    let r = made m.mode m.is_mode c.args.w c.requires.plain c.requires.list c.from.ensures q.same q.first q.second c.swapped.ensures c.exchanged_bits.ensures in
+    c.write_bytes.ensures ∙ r.block c.write_fields-bits.result c.write_fields-bits.ensures

@@ -1,9 +1,0 @@
--- `call_checks::sequences::put_lists` meets its contract.
-use Prim.Native.Nat.{◌-◌, ◌≤◌}
-use Rattle.call_checks.proofs.sequences.put_lists.Given as goal
-
-abbrev pub invariant-loop-k : goal.invariant-loop-k
-invariant-loop-k g l = l.k ≤ 64
-
-abbrev pub decreases-loop-k : goal.decreases-loop-k
-decreases-loop-k g l = 64 - l.k

@@ -1,9 +1,0 @@
--- The loop of `all_said`: no word beyond the last.
-use Rattle.std.proofs.Common.{◌-◌, ◌≤◌}
-use Rattle.commands.proofs.all_said.Given as goal
-
-abbrev pub invariant-loop-k : goal.invariant-loop-k
-invariant-loop-k l = l.k ≤ l.n
-
-abbrev pub decreases-loop-k : goal.decreases-loop-k
-decreases-loop-k l = l.n - l.k

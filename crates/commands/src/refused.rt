@@ -1,0 +1,47 @@
+// The proposals that are refused.
+use chooser::Refusal;
+use plates::report::Place;
+use std::fmt;
+use std::io::Print;
+
+// How many proposals were refused by each check. No run counts to 2 ^ 64.
+#[derive(Clone, Copy, Debug, Default, PartialEq, Eq)]
+pub(crate) struct Refused {
+    mode: u64,
+    partition: u64,
+    channel: u64,
+    p_bits: u64,
+}
+
+impl Refused {
+    // One refusal more.
+    fn add(&mut self, refusal: Refusal) {
+        let count = match refusal {
+            Refusal::Mode => &mut self.mode,
+            Refusal::Partition => &mut self.partition,
+            Refusal::Channel => &mut self.channel,
+            _ => &mut self.p_bits,
+        };
+        *count = count.wrapping_add(1);
+    }
+
+    // Names a block's refused proposals, and counts them.
+    pub(crate) fn count(&mut self, rt: &impl Print, place: Place, answers: &[Result<(), Refusal>]) {
+        for (i, answer) in answers.iter().enumerate() {
+            if let Err(refusal) = *answer {
+                self.add(refusal);
+                let _ = println!(rt; "{place}, proposal {i}: refused by {refusal}");
+            }
+        }
+    }
+}
+
+impl fmt::Display for Refused {
+    fn fmt<W: fmt::Write>(&self, f: &mut fmt::Formatter<W>) -> fmt::Result {
+        write!(
+            f,
+            "refused by 3: {}, by 4: {}, by 5: {}, by 6: {}",
+            self.mode, self.partition, self.channel, self.p_bits
+        )
+    }
+}

@@ -1,8 +1,0 @@
--- `rust_answers::groups::replay` meets its contract.
-use Rattle.rust_answers.proofs.groups.replay.Given as goal
-
-abbrev pub invariant-loop-turns : goal.invariant-loop-turns
-invariant-loop-turns g l = Unit {0}
-
-abbrev pub decreases-loop-turns : goal.decreases-loop-turns
-decreases-loop-turns g l = l.turns
