@@ -10,10 +10,12 @@ const LINE: usize = 32768;
 // How many arguments are read, with the name of the program: more than any command takes.
 const MOST: usize = 8;
 
-// The arguments one behind the other, with a 0 byte behind each, in fixed memory. One that is too long is empty.
+// The arguments one behind the other, with a 0 byte behind each, in fixed memory. One that is too long is empty, as
+// a line of bytes can say no more of it.
 fn command_line(env: &impl Env) -> Line<LINE> {
     let mut line = Line::new();
     let mut word = [0u8; 4096];
+    // by their places: std's iterator of the arguments takes heap
     for k in 1..MOST {
         match env.arg(k, &mut word) {
             Ok(n) => line.put(&word[..n]),

@@ -1,12 +1,12 @@
 -- What the checks accept of the numbers of C, and the words that these then are.
-use Prim.Native.Nat.{ℕ, ◌-◌, ◌^◌, ◌<◌}
+use Prim.Native.Nat.{ℕ, suc, ◌-◌, ◌^◌, ◌≤◌, ◌<◌}
 use native.Mathlib.Nat.{lt_of_lt_of_le}
 use native.Mathlib.Omega.{arith}
-use mathlib.Core.Path.{◌≡◌, refl, ap}
+use mathlib.Core.Path.{◌≡◌, refl, ap, ap₂, ◌∙◌}
 use mathlib.Core.Logic.{inl, inr}
 use mathlib.Core.List.{List, [], ◌∷◌, map}
 use lib.Dec.{T, lit<, eqb, leb, leb→le}
-use lib.ListN.{get_or}
+use lib.ListN.{get_or, length, length-map}
 use borrow.Author.Tests.{eq-eqb}
 use Rattle.lists.proofs.Tests.{pick_elim}
 use Rattle.bptc.specs.declared.Rgb.{Rgb}
@@ -22,7 +22,7 @@ use Rattle.bptc_block.proofs.Refusals.{Good}
 use Rattle.bptc_block.proofs.PackCall.{pack_good, pack_plain}
 use Rattle.bptc_block.proofs.WordEnds.{channel-byte}
 use Rattle.bptc_rust.proofs.Digits.{split-length}
-use Rattle.bc7_c.specs.Numbers.{end_of, ends_of, indices_of, packed_of, candidate_of}
+use Rattle.bc7_c.specs.Numbers.{end_of, indices_of, packed_at, candidate_at}
 
 -- the number of a mode is a byte
 known-byte : (n : ℕ) → Known n → n < 256
@@ -38,68 +38,62 @@ end_pixel : (e : ℕ) → (end_of e).b < 256 → pixel_of e ≡ end_of e
 unfolding end_of pixel_of
 end_pixel e h = rgb_eq refl refl (omega arith)
 
+-- four channels in range stand for themselves as words
+same_ends : (top : ℕ) → top ≤ 256 → (ends : List ℕ) → ((k : ℕ) → k < length (map end_of ends) → Below top (get_or (map end_of ends) k black)) → map pixel_of ends ≡ map end_of ends
+same_ends top most [] h = refl
+same_ends top most (e ∷ es) h = ap₂ ◌∷◌ (end_pixel e (lt_of_lt_of_le (h 0 (omega arith)).b most)) (same_ends top most es (λ k l. h (suc k) (omega arith)))
+
 -- what is known of a candidate's numbers that they accept: mode, partition and fixed p-bits are bytes, and the endpoints words
-pub record Bytewise (mode partition e0 e1 e2 e3 p free : ℕ) : Type 0 where
+pub record Bytewise (mode partition : ℕ) (ends : List ℕ) (p free : ℕ) : Type 0 where
   pub mode-byte : mode < 256
   pub partition-byte : partition < 256
   pub p-byte : free ≡ 0 → p < 256
-  pub ends : map pixel_of (e0 ∷ (e1 ∷ (e2 ∷ (e3 ∷ [])))) ≡ ends_of e0 e1 e2 e3
-  pub same : word_candidate (record { mode = mode; partition = partition; ends = e0 ∷ (e1 ∷ (e2 ∷ (e3 ∷ []))); p = p_bits_of p free }) ≡ candidate_of mode partition e0 e1 e2 e3 p free
+  pub again : map pixel_of ends ≡ map end_of ends
+  pub same : word_candidate (record { mode = mode; partition = partition; ends = ends; p = p_bits_of p free }) ≡ candidate_at mode partition ends p free
 
-module _ (mode partition e0 e1 e2 e3 p free : ℕ) (fit : Good (candidate_of mode partition e0 e1 e2 e3 p free)) where
-  pixel : (k e : ℕ) → k < 4 → get_or (ends_of e0 e1 e2 e3) k black ≡ end_of e → pixel_of e ≡ end_of e
-  pixel k e h at =
-      let b : Below (2 ^ (mode_numbered mode).channel_bits) (end_of e) = rw at at (fit.stored k h) in
-      end_pixel e (lt_of_lt_of_le b.b (channel-byte (mode_numbered mode) (numbered mode)))
-
+module _ (mode partition : ℕ) (ends : List ℕ) (p free : ℕ) (fit : Good (candidate_at mode partition ends p free)) where
   fixed-byte : free ≡ 0 → p < 256
   fixed-byte e =
       let t : T (leb p (2 ^ (mode_numbered mode).p_bits - 1)) = rw (eq-eqb free 0 e) at fit.p in
       omega (arith, leb→le p _ t, small_bits mode)
 
-  same_ends : map pixel_of (e0 ∷ (e1 ∷ (e2 ∷ (e3 ∷ [])))) ≡ ends_of e0 e1 e2 e3
-  same_ends = rw (pixel 0 e0 (omega arith) refl, pixel 1 e1 (omega arith) refl, pixel 2 e2 (omega arith) refl, pixel 3 e3 (omega arith) refl)
+  ends_again : map pixel_of ends ≡ map end_of ends
+  ends_again = same_ends (2 ^ (mode_numbered mode).channel_bits) (channel-byte (mode_numbered mode) (numbered mode)) ends fit.stored
 
   -- they are so
-  pub bytewise : Bytewise mode partition e0 e1 e2 e3 p free
+  pub bytewise : Bytewise mode partition ends p free
   bytewise =
       record {
         mode-byte = known-byte mode fit.mode;
         partition-byte = omega (arith, fit.partition);
         p-byte = fixed-byte;
-        ends = same_ends;
-        same = ap (λ (es : List Rgb). record { mode = mode; partition = partition; ends = es; p = p_bits_of p free }) same_ends;
+        again = ends_again;
+        same = ap (λ (es : List Rgb). record { mode = mode; partition = partition; ends = es; p = p_bits_of p free }) ends_again;
       }
 
 -- what is known of the numbers that `pack` accepts
-pub record Accepted (mode partition e0 e1 e2 e3 p indices : ℕ) : Type 0 where
+pub record Accepted (mode partition : ℕ) (ends : List ℕ) (p indices : ℕ) : Type 0 where
   -- mode, partition and p-bits are bytes
   pub mode-byte : mode < 256
   pub partition-byte : partition < 256
   pub p-byte : p < 256
   -- the fields are in range
-  pub plain : Plain (mode_numbered mode) (packed_of partition e0 e1 e2 e3 p indices)
+  pub plain : Plain (mode_numbered mode) (packed_at partition ends p indices)
   -- and words stand for them
-  pub words : word_fields 4 (record { partition = partition; ends = e0 ∷ (e1 ∷ (e2 ∷ (e3 ∷ []))); p = p; indexes = indices }) ≡ packed_of partition e0 e1 e2 e3 p indices
+  pub words : word_fields 4 (record { partition = partition; ends = ends; p = p; indexes = indices }) ≡ packed_at partition ends p indices
 
-module _ (mode partition e0 e1 e2 e3 p indices : ℕ) (part : List ℕ) (ok : pack_of mode (packed_of partition e0 e1 e2 e3 p indices) part ≡ 0) where
-  abbrev m : Mode
-  m = mode_numbered mode
-
+module _ (mode partition : ℕ) (ends : List ℕ) (p indices : ℕ) (part : List ℕ) (four : length ends ≡ 4) (ok : pack_of mode (packed_at partition ends p indices) part ≡ 0) where
   abbrev f : Fields
-  f = packed_of partition e0 e1 e2 e3 p indices
-
-  in_range_lem : Plain m f
-  in_range_lem = pack_plain mode f part ok refl (split-length 16 4 indices)
+  f = packed_at partition ends p indices
 
   -- they are so
-  pub accept : Accepted mode partition e0 e1 e2 e3 p indices
+  pub accept : Accepted mode partition ends p indices
   accept =
-      let b : Bytewise mode partition e0 e1 e2 e3 p 0 = bytewise mode partition e0 e1 e2 e3 p 0 (pack_good mode f part ok) in
+      let b : Bytewise mode partition ends p 0 = bytewise mode partition ends p 0 (pack_good mode f part ok) in
       record {
         mode-byte = b.mode-byte;
         partition-byte = b.partition-byte;
         p-byte = b.p-byte refl;
-        plain = in_range_lem;
-        words = ap (λ (es : List Rgb). record { partition = partition; ends = es; p = p; indices = indices_of indices }) b.ends;
+        plain = pack_plain mode f part ok (length-map ends end_of ∙ four) (split-length 16 4 indices);
+        words = ap (λ (es : List Rgb). record { partition = partition; ends = es; p = p; indices = indices_of indices }) b.again;
       }

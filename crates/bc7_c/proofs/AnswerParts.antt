@@ -6,7 +6,7 @@ use lib.ListN.{length}
 use borrow.Author.Tests.{eq-eqb, ne_eqb}
 use Rattle.std.proofs.Common.{Result, Ok, Err}
 use Rattle.refusals.specs.declared.Refusal.{Refusal}
-use Rattle.bptc_block.specs.Answers.{measured}
+use Rattle.bptc_block.specs.Answers.{finished, measured}
 use Rattle.chooser.specs.Answers.{taken}
 use Rattle.bc7_c.specs.Numbers.{answered, numbered}
 use Rattle.bc7_c.specs.Calls.{finish_answer, measure_answer, take_answer}
@@ -28,12 +28,17 @@ answer_parts =
       other = λ part block ne. rw (ne_eqb (length part) 68 ne) (taken-apart _ _);
     }
 
--- the number of an answer, by the refusal and the error that it stands for: of `measure`
-pub numbered-measured : (r : Result ℕ Refusal) → numbered r ≡ answered (measured r).refusal (measured r).error
-numbered-measured (Ok error) = refl
-numbered-measured (Err refusal) = refl
+-- the number of an answer, by the refusal and the error that it stands for: of `finish`
+pub numbered_finished : (r : Result ℕ Refusal) → numbered r ≡ answered (finished r).refusal (finished r).error
+numbered_finished (Ok error) = refl
+numbered_finished (Err refusal) = refl
+
+-- of `measure`
+pub numbered_measured : (r : Result ℕ Refusal) → numbered r ≡ answered (measured r).refusal (measured r).error
+numbered_measured (Ok error) = refl
+numbered_measured (Err refusal) = refl
 
 -- and of `take`
-pub numbered-taken : (r : Result ℕ Refusal) → numbered r ≡ answered (taken r).refusal (taken r).error
-numbered-taken (Ok error) = refl
-numbered-taken (Err refusal) = refl
+pub numbered_taken : (r : Result ℕ Refusal) → numbered r ≡ answered (taken r).refusal (taken r).error
+numbered_taken (Ok error) = refl
+numbered_taken (Err refusal) = refl

@@ -17,7 +17,7 @@ use Rattle.bptc_block.specs.Compressed.{Compressed}
 use Rattle.chooser.specs.declared.Chooser.{Chooser}
 use Rattle.chooser.specs.Answers.{Offered}
 use Rattle.chooser.specs.OfferCall.{offer_refusal, finish_gives, offer_of}
-use Rattle.chooser.proofs.Calls.{start-answer, started_length, offer_cases, offer-number, offer-declined, gives_keeps}
+use Rattle.chooser.proofs.Calls.{start_answer, started_length, offer_cases, offer-number, offer_declined, gives_keeps}
 use Rattle.bc7_c.specs.Parts.{chooser_bytes, chooser_in}
 use Rattle.bc7_c.specs.Calls.{start_part, offer_answer, offer_part}
 use Rattle.bc7_c.specs.Held.{StartHeld, OfferHeld, DeclinedLeaves}
@@ -37,7 +37,7 @@ again ch f = in_bytes ch f.pixels f.block f.error
 pub start-held : StartHeld
 unfolding start_part
 start-held px part whole =
-    rw (eq-eqb (length part) 68 whole, start-answer px)
+    rw (eq-eqb (length part) 68 whole, start_answer px)
     (again _ (record { pixels = started_length px; block = refl; error = lit< tt }))
 
 -- that of a part is one
@@ -78,5 +78,5 @@ declined_leaves part c bytes ne = go (eqb (length part) 68) refl ne
         pick t (chooser_bytes (offer_of (chooser_in part) c).chooser) part ≡ part
     go true e some =
         let declined : offer_refusal c ≡ 0 → ⊥ = λ z. some (offer-number (chooser_in part) c ∙ z) in
-        rw (offer-declined (chooser_in part) c declined) (bytes_in part (eqb-true _ _ e) bytes)
+        rw (offer_declined (chooser_in part) c declined) (bytes_in part (eqb-true _ _ e) bytes)
     go false e some = refl

@@ -1,13 +1,13 @@
 -- A number without any bit of a mask has small fields.
-use Prim.Native.Nat.{ℕ, ◌+◌, ◌-◌, ◌*◌, ◌/◌, ◌%◌, ◌^◌, ◌≤◌, ◌<◌}
+use Prim.Native.Nat.{ℕ, suc, ◌+◌, ◌-◌, ◌*◌, ◌/◌, ◌%◌, ◌^◌, ◌≤◌, ◌<◌}
 use native.Mathlib.Nat.{zero-mul, add_comm, mod-lt, mul-le-mul_left, mul-le-mul_right, le-div_iff_mul-le, div-eq_of_lt}
 use native.Mathlib.Omega.{arith}
 use mathlib.Core.Path.{◌≡◌, refl, sym, ap, ap₂, subst, ◌∙◌}
 use mathlib.Core.Bool.{Bool, true, false}
-use mathlib.Core.List.{List, [], ◌∷◌}
+use mathlib.Core.List.{List, [], ◌∷◌, map}
 use lib.Bits.{bit_and, bit_or, and_le_r, and_zero_r, or_zero_l, or_add_and, and_block, and_high}
 use lib.Dec.{eqb, leb}
-use lib.ListN.{replicate}
+use lib.ListN.{get_or, replicate}
 use lib.Pow.{pow_pos, pow-sub-lt, lt_of_le_ones, shr_lt, shr_mod}
 use lib.Pow as P
 use borrow.Author.Tests.{ne_eqb, eqb-true, eqb-false, leb-true, leb-false, le-leb}
@@ -22,7 +22,7 @@ use Rattle.bptc_block.specs.Refusal.{within, in_range, check_candidate, check_in
 use Rattle.bptc_block.specs.PackCall.{fixed_at}
 use Rattle.bptc_block.proofs.Modes.{lawful, index-narrow, numbered}
 use Rattle.bptc_block.proofs.Refusals.{is_mode_lem}
-use Rattle.bc7_c.specs.Numbers.{end_of, ends_of, indices_of, packed_of, candidate_of}
+use Rattle.bc7_c.specs.Numbers.{end_of, indices_of, packed_at, candidate_at}
 use Rattle.bc7_c.specs.Masks.{above, end_widths, over, check_masked}
 
 -- a sum of two parts is 0 where both are
@@ -80,38 +80,28 @@ end_masked k e l h =
     masked end_widths k e (rw (le-leb k 8 l, le-leb k 16 wide)) h
     ∙ ap (λ t. and (leb (e % 256) (2 ^ k - 1)) (and (leb (e / 256 % 256) (2 ^ k - 1)) t)) (and_last _ ∙ ap (λ (v : ℕ). leb v (2 ^ k - 1)) blue)
 
--- four of them
-ends_masked : (k e0 e1 e2 e3 : ℕ) → k ≤ 8 → e0 < 2 ^ 32 → e1 < 2 ^ 32 → e2 < 2 ^ 32 → e3 < 2 ^ 32 →
-    eqb (over (above end_widths k) (e0 ∷ (e1 ∷ (e2 ∷ (e3 ∷ []))))) 0 ≡ in_range (2 ^ k - 1) (ends_of e0 e1 e2 e3)
-ends_masked k e0 e1 e2 e3 l h0 h1 h2 h3 =
-    let o : ℕ = above end_widths k in
-    rw (
-      or-zero (bit_and e0 o) (over o (e1 ∷ (e2 ∷ (e3 ∷ [])))),
-      or-zero (bit_and e1 o) (over o (e2 ∷ (e3 ∷ []))),
-      or-zero (bit_and e2 o) (bit_and e3 o),
-      end_masked k e0 l h0,
-      end_masked k e1 l h1,
-      end_masked k e2 l h2,
-      end_masked k e3 l h3,
-      and_last (within (2 ^ k - 1) (end_of e3)),
-    )
+-- several
+ends_masked : (k : ℕ) (ends : List ℕ) → k ≤ 8 → ((i : ℕ) → get_or ends i 0 < 2 ^ 32) → eqb (over (above end_widths k) ends) 0 ≡ in_range (2 ^ k - 1) (map end_of ends)
+ends_masked k [] l h = refl
+ends_masked k (e ∷ []) l h = end_masked k e l (h 0) ∙ sym (and_last (within (2 ^ k - 1) (end_of e)))
+ends_masked k (e ∷ (f ∷ es)) l h = or-zero (bit_and e (above end_widths k)) (over (above end_widths k) (f ∷ es)) ∙ ap₂ and (end_masked k e l (h 0)) (ends_masked k (f ∷ es) l (λ i. h (suc i)))
 
 -- sixteen indices
 indices_masked : (k n : ℕ) → k ≤ 4 → n < 2 ^ 64 → eqb (bit_and n (above (replicate 16 4) k)) 0 ≡ all (λ (i : ℕ). leb i (2 ^ k - 1)) (indices_of n)
 indices_masked k n l h = masked (replicate 16 4) k n (rw (le-leb k 4 l)) h
 
 -- checks 3 to 7, by the masks of a mode
-pub masked_checked : (mode partition e0 e1 e2 e3 p indices channels top index : ℕ) → Known mode →
-    e0 < 2 ^ 32 → e1 < 2 ^ 32 → e2 < 2 ^ 32 → e3 < 2 ^ 32 → indices < 2 ^ 64 → channels ≡ above end_widths (mode_numbered mode).channel_bits →
+pub masked_checked : (mode partition : ℕ) (ends : List ℕ) (p indices channels top index : ℕ) → Known mode →
+    ((i : ℕ) → get_or ends i 0 < 2 ^ 32) → indices < 2 ^ 64 → channels ≡ above end_widths (mode_numbered mode).channel_bits →
     top ≡ 2 ^ (mode_numbered mode).p_bits - 1 → index ≡ above (replicate 16 4) (mode_numbered mode).index_bits →
-    check_masked channels top index partition (e0 ∷ (e1 ∷ (e2 ∷ (e3 ∷ [])))) p indices
-    ≡ check_candidate (fixed_at mode (packed_of partition e0 e1 e2 e3 p indices)) (check_indices mode (indices_of indices) 0)
+    check_masked channels top index partition ends p indices
+    ≡ check_candidate (fixed_at mode (packed_at partition ends p indices)) (check_indices mode (indices_of indices) 0)
 unfolding check_candidate largest
-masked_checked mode partition e0 e1 e2 e3 p indices channels top index known h0 h1 h2 h3 h c t i =
+masked_checked mode partition ends p indices channels top index known small h c t i =
     let m : Mode = mode_numbered mode in
     let bits : m.channel_bits ≤ 8 = omega (arith, (lawful mode).shades.most) in
     let few : m.index_bits ≤ 4 = omega (arith, (index-narrow (mode_numbered mode) (numbered mode)).1) in
-    rw (c, t, i, is_mode_lem mode known, ends_masked m.channel_bits e0 e1 e2 e3 bits h0 h1 h2 h3, indices_masked m.index_bits indices few h)
+    rw (c, t, i, is_mode_lem mode known, ends_masked m.channel_bits ends bits small, indices_masked m.index_bits indices few h)
 
 -- sixteen indices 0 pass
 zeros_pass : (mode : ℕ) → check_indices mode (indices_of 0) 0 ≡ 0
@@ -119,21 +109,21 @@ unfolding split
 zeros_pass mode = rw (le-leb 0 (largest (mode_numbered mode)) (omega arith))
 
 -- checks 3 to 6 of a candidate: free p-bits pass as 0 does
-pub unindexed : (mode partition e0 e1 e2 e3 p free : ℕ) →
-    check_candidate (fixed_at mode (packed_of partition e0 e1 e2 e3 (pick (eqb free 0) p 0) 0)) (check_indices mode (indices_of 0) 0)
-    ≡ check_candidate (candidate_of mode partition e0 e1 e2 e3 p free) 0
+pub unindexed : (mode partition : ℕ) (ends : List ℕ) (p free : ℕ) →
+    check_candidate (fixed_at mode (packed_at partition ends (pick (eqb free 0) p 0) 0)) (check_indices mode (indices_of 0) 0)
+    ≡ check_candidate (candidate_at mode partition ends p free) 0
 unfolding check_candidate
-unindexed mode partition e0 e1 e2 e3 p free = rw (zeros_pass mode) (go (eqb free 0))
+unindexed mode partition ends p free = rw (zeros_pass mode) (go (eqb free 0))
   where
-    go : (t : Bool) → check_candidate (fixed_at mode (packed_of partition e0 e1 e2 e3 (pick t p 0) 0)) 0
-        ≡ check_candidate (record { mode = mode; partition = partition; ends = ends_of e0 e1 e2 e3; p = pick t (Fixed p) Free }) 0
+    go : (t : Bool) → check_candidate (fixed_at mode (packed_at partition ends (pick t p 0) 0)) 0
+        ≡ check_candidate (record { mode = mode; partition = partition; ends = map end_of ends; p = pick t (Fixed p) Free }) 0
     go true = refl
     go false = rw (le-leb 0 (2 ^ (mode_numbered mode).p_bits - 1) (omega arith))
 
 -- the bits that no channel of a mode has
-pub end-mask : (m : Mode) → IsMode m → 4294967295 - (2 ^ m.channel_bits - 1) * 65793 ≡ above end_widths m.channel_bits
+pub channel_mask : (m : Mode) → IsMode m → 4294967295 - (2 ^ m.channel_bits - 1) * 65793 ≡ above end_widths m.channel_bits
 unfolding above join
-end-mask = by_mode (λ (m : Mode). 4294967295 - (2 ^ m.channel_bits - 1) * 65793 ≡ above end_widths m.channel_bits) refl refl
+channel_mask = by_mode (λ (m : Mode). 4294967295 - (2 ^ m.channel_bits - 1) * 65793 ≡ above end_widths m.channel_bits) refl refl
 
 -- and no index
 pub index-mask : (m : Mode) → IsMode m → 18446744073709551615 - largest m * 1229782938247303441 ≡ above (replicate 16 4) m.index_bits

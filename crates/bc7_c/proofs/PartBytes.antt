@@ -1,5 +1,5 @@
 -- Laws of the bytes of a chooser and of fields: written one after the other, and read again.
-use Prim.Native.Nat.{ℕ, ◌+◌, ◌/◌, ◌%◌, ◌^◌, ◌<◌, ◌≤◌}
+use Prim.Native.Nat.{ℕ, ◌+◌, ◌^◌, ◌<◌, ◌≤◌}
 use native.Mathlib.Omega.{arith}
 use mathlib.Core.Path.{◌≡◌, sym, ap, ◌∙◌}
 use mathlib.Core.List.{List, [], ◌∷◌, ◌++◌, append-nil, append_assoc}
@@ -10,7 +10,6 @@ use Rattle.std.proofs.Common.{w32}
 use Rattle.std.specs.Int.{to_le_bytes, from_le_bytes}
 use Rattle.std.proofs.lemmas.Nat.{le_bytes_4}
 use Rattle.lists.specs.Bytes.{Bytes, bytes, number}
-use Rattle.lists.specs.Bits.{split}
 use Rattle.lists.proofs.Rows.{listed}
 use Rattle.lists.proofs.Bytes.{byte_lt, length-bytes, bytes-bytes, number-bytes, bytes-number, number-four}
 use Rattle.bptc.specs.declared.Rgb.{Rgb}
@@ -72,10 +71,10 @@ chooser_put ch rest p b r =
     (append_assoc ch.pixels ch.block (bytes 4 ch.error))
 
 -- the fields before the indices, endpoint by endpoint
-pub head-listed : (r : BlockRead) → length r.ends ≡ 4 →
+pub head_listed : (r : BlockRead) → length r.ends ≡ 4 →
     r.mode ∷ (r.partition ∷ (bytes_of (get_or r.ends 0 black ∷ (get_or r.ends 1 black ∷ (get_or r.ends 2 black ∷ (get_or r.ends 3 black ∷ [])))) ++ (r.p ∷ []))) ≡ head_bytes r
 unfolding head_bytes
-head-listed r four = ap (λ (es : List Rgb). r.mode ∷ (r.partition ∷ (bytes_of es ++ (r.p ∷ [])))) (listed black r.ends 4 four)
+head_listed r four = ap (λ (es : List Rgb). r.mode ∷ (r.partition ∷ (bytes_of es ++ (r.p ∷ [])))) (listed black r.ends 4 four)
 
 -- the number of four bytes, by the library's word
 pub four-number : (bs : List ℕ) → length bs ≡ 4 → from_le_bytes w32 bs ≡ number bs

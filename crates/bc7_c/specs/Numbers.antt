@@ -1,5 +1,5 @@
 -- The numbers that C hands over, any of their type, and what they stand for.
-use Rattle.std.specs.Prelude.{ℕ, ◌+◌, ◌*◌, ◌/◌, ◌%◌, ◌^◌, List, [], ◌∷◌, Result, Ok, Err, replicate}
+use Rattle.std.specs.Prelude.{ℕ, ◌+◌, ◌*◌, ◌/◌, ◌%◌, ◌^◌, List, [], ◌∷◌, Result, Ok, Err, map, replicate}
 use Rattle.lists.specs.Bits.{split}
 use Rattle.refusals.specs.declared.Refusal.{Refusal}
 use Rattle.refusals.specs.Numbers.{number_of}
@@ -27,6 +27,13 @@ candidate_of mode partition e0 e1 e2 e3 p free = record { mode = mode; partition
 -- what `pack` is handed besides the mode
 abbrev pub packed_of : ℕ → ℕ → ℕ → ℕ → ℕ → ℕ → ℕ → Fields
 packed_of partition e0 e1 e2 e3 p indices = record { partition = partition; ends = ends_of e0 e1 e2 e3; p = p; indices = indices_of indices }
+
+-- the same with the endpoints as one list
+abbrev pub candidate_at : ℕ → ℕ → List ℕ → ℕ → ℕ → Candidate
+candidate_at mode partition ends p free = record { mode = mode; partition = partition; ends = map end_of ends; p = p_bits_of p free }
+
+abbrev pub packed_at : ℕ → List ℕ → ℕ → ℕ → Fields
+packed_at partition ends p indices = record { partition = partition; ends = map end_of ends; p = p; indices = indices_of indices }
 
 -- a refusal and an error as one number, the error in the 32 lowest bits
 unfoldable pub answered : ℕ → ℕ → ℕ

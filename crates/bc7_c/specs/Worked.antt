@@ -1,7 +1,8 @@
 -- What C's numbers and parts stand for, worked by hand as bc7.h has it.
-use Rattle.std.specs.Prelude.{◌≡◌, [], ◌∷◌, ◌++◌, replicate}
+use Rattle.std.specs.Prelude.{◌≡◌, [], ◌∷◌, ◌++◌, Ok, Err, replicate}
+use Rattle.refusals.specs.declared.Refusal.TheVariants.{Mode}
 use Rattle.bptc_block.specs.declared.PBits.TheVariants.{Free, Fixed}
-use Rattle.bc7_c.specs.Numbers.{end_of, indices_of, candidate_of}
+use Rattle.bc7_c.specs.Numbers.{end_of, indices_of, candidate_of, numbered}
 use Rattle.bc7_c.specs.Parts.{chooser_bytes, field_bytes}
 
 -- what each definition gives
@@ -30,6 +31,9 @@ pub record Worked : Type 0 where
       }
   -- and with free ones
   pub free : candidate_of 1 0 0 0 0 0 5 2 ≡ record { mode = 1; partition = 0; ends = replicate 4 (record { r = 0; g = 0; b = 0 }); p = Free }
+  -- an error of 7, and refusal 3, in the upper 32 bits
+  pub error : numbered (Ok 7) ≡ 7
+  pub refused : numbered (Err Mode) ≡ 0x300000000
   -- the 68 bytes of a chooser: its pixels, the block it holds and its error, lowest byte first
   pub chooser :
       chooser_bytes (record { pixels = replicate 48 7; block = replicate 16 8; error = 0x04030201 })

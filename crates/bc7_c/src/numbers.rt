@@ -12,6 +12,7 @@ pub(crate) fn p_bits(p: u32, free: u32) -> PBits
     ensures { result ≡ p_bits_of p free }
 {
     if free == 0 {
+        // narrows a number that the checks accept
         PBits::Fixed(p as u8)
     } else {
         PBits::Free
@@ -29,8 +30,9 @@ pub(crate) fn numbered(given: Result<u32, Refusal>) -> u64
 }
 
 // A refusal and an error as one number.
+#[tactic(auto, unfolding(crate::specs::Numbers::answered))]
 pub(crate) fn answer(refusal: u32, error: u32) -> u64
     ensures { result ≡ answered refusal error }
 {
-    (refusal as u64) * 4294967296 + error as u64
+    u64::from(refusal) * 4294967296 + u64::from(error)
 }

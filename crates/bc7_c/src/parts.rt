@@ -1,14 +1,13 @@
 // A chooser and the fields of a reading, as bytes of a lent part.
-ghost use Rattle.std.specs.Prelude.{◌≡◌, length};
+ghost use Rattle.std.specs.Prelude.{◌≡◌};
 ghost use Rattle.bptc_block.specs.Answers.{reading_of};
 ghost use Rattle.bc7_c.specs.Parts.{chooser_bytes, chooser_in, head_bytes, field_bytes};
 
 use block::Reading;
 use chooser::Chooser;
 
-// The chooser in a part. Requires 68 bytes.
-pub(crate) fn chooser_in(part: &[u8]) -> Chooser
-    requires { length part.now ≡ 68 }
+// The chooser in a part.
+pub(crate) fn chooser_in(part: &[u8; 68]) -> Chooser
     ensures { result ≡ chooser_in part.now }
 {
     let mut pixels = [0u8; 48];
@@ -24,9 +23,8 @@ pub(crate) fn chooser_in(part: &[u8]) -> Chooser
     }
 }
 
-// A chooser into a part. Requires 68 bytes.
-pub(crate) fn write_chooser(chooser: Chooser, part: &mut [u8])
-    requires { length part.old ≡ 68 }
+// A chooser into a part.
+pub(crate) fn write_chooser(chooser: Chooser, part: &mut [u8; 68])
     ensures { part.new ≡ chooser_bytes chooser }
 {
     part[0..48].copy_from_slice(&chooser.pixels);
@@ -59,9 +57,8 @@ fn head(reading: Reading) -> [u8; 15]
     ]
 }
 
-// The fields of a reading into a part. Requires 31 bytes.
-pub(crate) fn write_fields(reading: Reading, part: &mut [u8])
-    requires { length part.old ≡ 31 }
+// The fields of a reading into a part.
+pub(crate) fn write_fields(reading: Reading, part: &mut [u8; 31])
     ensures { part.new ≡ field_bytes (reading_of reading.mode reading.fields) }
 {
     part[0..15].copy_from_slice(&head(reading));

@@ -1,11 +1,11 @@
 -- The bytes of a number's two halves of 64 bits.
-use Prim.Native.Nat.{ℕ, ◌+◌, ◌-◌, ◌*◌, ◌/◌, ◌%◌, ◌^◌, ◌<◌}
+use Prim.Native.Nat.{ℕ, ◌+◌, ◌-◌, ◌*◌, ◌/◌, ◌%◌, ◌^◌, ◌<◌, ◌≤◌}
 use native.Mathlib.Nat.{zero-mul, zero-add}
 use native.Mathlib.Omega.{arith}
 use mathlib.Core.List.{List, ◌++◌, map, append-nil}
 use mathlib.Core.Path.{◌≡◌, sym, ap, ap₂, ◌∙◌}
 use borrow.Rule.Slice.PartMut.{put_mid}
-use lib.ListN.{length, get_or, drop, length-drop, drop_of_length-le}
+use lib.ListN.{length, get_or, drop, length-append, length-drop, drop_of_length-le}
 use lib.Seq.{take-append_seam}
 use Rattle.lists.specs.Rows.{up_from}
 use Rattle.lists.specs.Bits.{halves}
@@ -35,7 +35,7 @@ halves-bytes low high l h =
     ap₂ ◌++◌ lower upper ∙ listed 0 (bytes 16 n) 16 (length-bytes 16 n)
 
 -- eight bytes written over the second half of sixteen
-pub second_half : (first rest second : List ℕ) → length first ≡ 8 → put_mid 8 (length (first ++ rest) - 8) (first ++ rest) second ≡ first ++ second
-second_half first rest second e =
-    ap₂ ◌++◌ (rw e at (take-append_seam first rest))
-    (ap (λ (xs : List ℕ). second ++ xs) (drop_of_length-le (drop 8 (first ++ rest)) (omega (arith, length-drop 8 (first ++ rest)))) ∙ append-nil second)
+pub second_half : (first rest second : List ℕ) → length first ≡ 8 → length rest ≡ 8 → put_mid 8 8 (first ++ rest) second ≡ first ++ second
+second_half first rest second e k =
+    let last : length (drop 8 (first ++ rest)) ≤ 8 = omega (arith, length-drop 8 (first ++ rest), length-append first rest, e, k) in
+    ap₂ ◌++◌ (rw e at (take-append_seam first rest)) (ap (λ (xs : List ℕ). second ++ xs) (drop_of_length-le (drop 8 (first ++ rest)) last) ∙ append-nil second)

@@ -11,6 +11,7 @@ use crate::writing::endpoints;
 use bptc::Rgb;
 use bptc_block::Words;
 use palette::Mode;
+use palette::colour::Width;
 
 // A number of 128 bits, and how many of its bits are written.
 #[derive(Clone, Copy)]
@@ -20,13 +21,13 @@ pub(crate) struct BitStream {
     ghost above: { «data» < 2 ^ bits },
 }
 
-// Four channels as one number, the first lowest.
-fn four(bits: u32, channels: [u8; 4]) -> u64
-    requires few { bits ≤ 8 }
-    requires small { (k : ℕ) → k < 4 → get_or channels k 0 < 2 ^ bits }
-    ensures same { result ≡ join (replicate 4 bits) channels }
-    ensures small { result < 2 ^ (4 * bits) }
+// Four channels as one number, the first lowest. Requires that they are within the width: `Ends` says it of whole endpoints.
+fn four(width: Width, channels: [u8; 4]) -> u64
+    requires { (k : ℕ) → k < 4 → get_or channels k 0 < 2 ^ width.bits }
+    ensures same { result ≡ join (replicate 4 width.bits) channels }
+    ensures small { result < 2 ^ (4 * width.bits) }
 {
+    let bits = width.bits;
     let [a, b, c, d] = channels;
     let two = (u64::from(d) << bits) + u64::from(c);
     let three = (two << bits) + u64::from(b);
@@ -42,7 +43,7 @@ impl BitStream {
         BitStream { data: 0, bits: 0 }
     }
 
-    // Writes a value of so many bits above all that is written.
+    // Writes a value of so many bits above all that is written. Requires room for it, of which each function here asks for its own.
     pub(crate) fn write_u64(self, value: u64, bits: u32) -> BitStream
         requires fits { value < 2 ^ bits }
         requires some { 0 < bits }
@@ -57,30 +58,26 @@ impl BitStream {
     }
 
     // Writes one channel of the four endpoints.
-    fn write_channels(self, bits: u32, channels: [u8; 4]) -> BitStream
-        requires some { 0 < bits }
-        requires few { bits ≤ 8 }
-        requires small { (k : ℕ) → k < 4 → get_or channels k 0 < 2 ^ bits }
-        requires room { self.bits + 4 * bits ≤ 128 }
-        ensures same { result.data ≡ self.data + join (replicate 4 bits) channels * 2 ^ self.bits }
-        ensures place { result.bits ≡ self.bits + 4 * bits }
+    fn write_channels(self, width: Width, channels: [u8; 4]) -> BitStream
+        requires small { (k : ℕ) → k < 4 → get_or channels k 0 < 2 ^ width.bits }
+        requires room { self.bits + 4 * width.bits ≤ 128 }
+        ensures same { result.data ≡ self.data + join (replicate 4 width.bits) channels * 2 ^ self.bits }
+        ensures place { result.bits ≡ self.bits + 4 * width.bits }
     {
-        self.write_u64(four(bits, channels), 4 * bits)
+        self.write_u64(four(width, channels), 4 * width.bits)
     }
 
     // Writes all reds, all greens, all blues of the four endpoints.
-    fn write_endpoints_rgb(self, bits: u32, ends: [Rgb; 4]) -> BitStream
-        requires some { 0 < bits }
-        requires few { bits ≤ 8 }
-        requires channels { (k : ℕ) → k < 4 → Below (2 ^ bits) (get_or ends k black) }
-        requires room { self.bits + 12 * bits ≤ 128 }
-        ensures same { result.data ≡ self.data + join (replicate 12 bits) (channel_values ends []) * 2 ^ self.bits }
-        ensures place { result.bits ≡ self.bits + 12 * bits }
+    fn write_endpoints_rgb(self, width: Width, ends: [Rgb; 4]) -> BitStream
+        requires channels { (k : ℕ) → k < 4 → Below (2 ^ width.bits) (get_or ends k black) }
+        requires room { self.bits + 12 * width.bits ≤ 128 }
+        ensures same { result.data ≡ self.data + join (replicate 12 width.bits) (channel_values ends []) * 2 ^ self.bits }
+        ensures place { result.bits ≡ self.bits + 12 * width.bits }
     {
         let [e0, e1, e2, e3] = ends;
-        let reds = self.write_channels(bits, [e0.r, e1.r, e2.r, e3.r]);
-        let greens = reds.write_channels(bits, [e0.g, e1.g, e2.g, e3.g]);
-        greens.write_channels(bits, [e0.b, e1.b, e2.b, e3.b])
+        let reds = self.write_channels(width, [e0.r, e1.r, e2.r, e3.r]);
+        let greens = reds.write_channels(width, [e0.g, e1.g, e2.g, e3.g]);
+        greens.write_channels(width, [e0.b, e1.b, e2.b, e3.b])
     }
 }
 
@@ -96,7 +93,7 @@ pub(crate) fn write_fields<M: Mode>(w: Words) -> u128
     let ends = endpoints(w.ends);
     let mode = BitStream::new().write_u64(1 << number, number + 1);
     let front = mode.write_u64(u64::from(w.partition), 6);
-    let stored = front.write_endpoints_rgb(M::CHANNEL_BITS, ends);
+    let stored = front.write_endpoints_rgb(M::width(), ends);
     let own = stored.write_u64(u64::from(w.p), M::P_BITS);
     own.write_u64(w.indexes, 16 * M::INDEX_BITS - 2).data
 }
@@ -108,16 +105,17 @@ fn write_half(n: u64, half: &mut [u8])
     requires { length half.old ≡ 8 }
     ensures { half.new ≡ bytes 8 n }
 {
+    // by an index, as bytes are written and their places read; each narrows a value that the check proves to fit
     for i in 0..8 {
         half[i] = ((n >> (8 * i)) % 256) as u8;
     }
 }
 
 // The sixteen bytes of a number into a block, the lowest first.
-pub(crate) fn write_bytes(bits: u128, block: &mut [u8])
-    requires { length block.old ≡ 16 }
+pub(crate) fn write_bytes(bits: u128, block: &mut [u8; 16])
     ensures { block.new ≡ bytes 16 bits }
 {
+    // both narrow values that the check proves to fit
     write_half((bits % (1 << 64)) as u64, &mut block[..8]);
     write_half((bits >> 64) as u64, &mut block[8..]);
 }

@@ -1,6 +1,5 @@
 // Fields as the bits of a block: what the Rust's Compressed::mode1 and mode3 do.
-ghost use Rattle.std.specs.Prelude.{◌≡◌, ℕ, ◌+◌, ◌*◌, ◌/◌, ◌%◌, ◌^◌, ◌<◌, map, get_or, length};
-ghost use Rattle.bptc.specs.Mode.{mode_numbered};
+ghost use Rattle.std.specs.Prelude.{◌≡◌, ◌+◌, ◌*◌, ◌/◌, ◌%◌, ◌^◌, ◌<◌, map};
 ghost use Rattle.bptc.specs.Pixels.{pixel_word, pixel_of};
 ghost use Rattle.bptc_block.specs.Fields.{Plain, word_fields};
 ghost use Rattle.bptc_block.specs.Packed.{packed};
@@ -10,9 +9,10 @@ use crate::indexes::{compress_p2, index_list, narrowed};
 use crate::stream::{write_bytes, write_fields};
 use bptc::Rgb;
 use bptc_block::{Fields, Words};
-use palette::{Mode, Mode1, Mode3};
+use palette::Mode;
+use partitions::Partition;
 
-// The endpoints, those of a subset exchanged where it is swapped.
+// The endpoints, those of a subset exchanged where it is swapped. A test for each subset, taken apart at once.
 fn swapped(mut ends: [u32; 4], swap0: bool, swap1: bool) -> [u32; 4]
     ensures { map pixel_of result ≡ swapped_ends (map pixel_of ends) swap0 swap1 }
 {
@@ -38,6 +38,7 @@ fn exchanged_bits<M: Mode>(p: u8, swap0: bool, swap1: bool) -> u8
     requires { p < 2 ^ M.mode.p_bits }
     ensures { result ≡ exchanged_both M.mode swap0 swap1 p }
 {
+    // a test of the width and no method of each mode, as the chapter's rule goes over the widths
     if M::P_BITS == 4 {
         turned_bits(swap0, p % 4) + turned_bits(swap1, p / 4 % 4) * 4
     } else {
@@ -46,15 +47,18 @@ fn exchanged_bits<M: Mode>(p: u8, swap0: bool, swap1: bool) -> u8
 }
 
 // The block of words of a mode into a lent part: the writer of every call that makes a block.
-// Requires fields in range and 16 bytes.
+// Requires fields in range, as a clause and by no type: the checks, finishing and reading each show it in another way, and a type would be
+// made and taken apart in the next line.
 #[inline(always)]
-pub fn write_words<M: Mode>(w: Words, block: &mut [u8])
+pub fn write_words<M: Mode>(w: Words, block: &mut [u8; 16])
     requires plain { Plain M.mode (word_fields M.mode.index_bits w) }
     requires list { w.indexes < 2 ^ (16 * M.mode.index_bits) }
-    requires sixteen { length block.old ≡ 16 }
     ensures { block.new ≡ packed M.mode (compressed M.mode (word_fields M.mode.index_bits w)) }
 {
-    let (indexes, swap0, swap1) = compress_p2::<M>(w.indexes, usize::from(w.partition));
+    let partition = Partition {
+        number: w.partition,
+    };
+    let (indexes, swap0, swap1) = compress_p2::<M>(w.indexes, partition);
     let bits = write_fields::<M>(Words {
         partition: w.partition,
         ends: swapped(w.ends, swap0, swap1),
@@ -64,10 +68,9 @@ pub fn write_words<M: Mode>(w: Words, block: &mut [u8])
     write_bytes(bits, block);
 }
 
-// The same of words whose indices have four bits each. Requires the same.
-pub fn write_narrowed<M: Mode>(w: Words, block: &mut [u8])
-    requires plain { Plain M.mode (word_fields 4 w) }
-    requires sixteen { length block.old ≡ 16 }
+// The block of words whose indices have four bits each. Requires fields in range.
+pub fn write_narrowed<M: Mode>(w: Words, block: &mut [u8; 16])
+    requires { Plain M.mode (word_fields 4 w) }
     ensures { block.new ≡ packed M.mode (compressed M.mode (word_fields 4 w)) }
 {
     let indexes = narrowed(M::INDEX_BITS, w.indexes);
@@ -78,20 +81,20 @@ pub fn write_narrowed<M: Mode>(w: Words, block: &mut [u8])
 pub fn endpoints(e: [u32; 4]) -> [Rgb; 4]
     ensures { result ≡ map pixel_of e }
 {
-    e.map(|n| Rgb::from(n))
+    e.map(Rgb::from)
 }
 
 // Four endpoints, each as one number.
 pub fn words(e: [Rgb; 4]) -> [u32; 4]
     ensures { result ≡ map pixel_word e }
 {
-    e.map(|c| u32::from(c))
+    e.map(u32::from)
 }
 
-// The block of fields of a mode into a lent part. Requires fields in range and 16 bytes.
-fn write<M: Mode>(f: Fields, block: &mut [u8])
-    requires plain { Plain M.mode f }
-    requires sixteen { length block.old ≡ 16 }
+// The block of fields of a mode into a lent part. Requires fields in range.
+#[tactic(auto, using(bptc_rust::proofs::WordFields::list_small, bptc_rust::proofs::Compressing::plain_small))]
+pub fn write<M: Mode>(f: Fields, block: &mut [u8; 16])
+    requires { Plain M.mode f }
     ensures { block.new ≡ packed M.mode (compressed M.mode f) }
 {
     let w = Words {
@@ -101,16 +104,4 @@ fn write<M: Mode>(f: Fields, block: &mut [u8])
         indexes: index_list::<M>(&f.indices),
     };
     write_words::<M>(w, block);
-}
-
-// The same by the mode's number, 1 and else 3. Requires the same.
-pub fn write_block(mode: u8, f: Fields, block: &mut [u8])
-    requires plain { Plain (mode_numbered mode) f }
-    requires sixteen { length block.old ≡ 16 }
-    ensures { block.new ≡ packed (mode_numbered mode) (compressed (mode_numbered mode) f) }
-{
-    match mode {
-        1 => write::<Mode1>(f, block),
-        _ => write::<Mode3>(f, block),
-    }
 }

@@ -1,16 +1,16 @@
 // The checks of the calls, in the order of the refusals.
-ghost use Rattle.std.specs.Prelude.{◌≡◌, ◌-◌, ◌^◌, leb, length};
+ghost use Rattle.std.specs.Prelude.{◌≡◌, ◌-◌, ◌^◌, leb, MatchResult};
 ghost use Rattle.std.specs.List.{list_all};
 ghost use Rattle.bptc.specs.Mode.{largest};
-ghost use Rattle.refusals.specs.Numbers.{declined};
+ghost use Rattle.refusals.specs.Numbers.{number_of, declined};
+ghost use Rattle.bptc_block.specs.Fields.{word_candidate};
 ghost use Rattle.bptc_block.specs.Packed.{mode_of};
-ghost use Rattle.bptc_block.specs.PackCall.{pack_of};
-ghost use Rattle.bptc_block.specs.FinishCall.{finish_refusal};
-ghost use Rattle.bptc_block.specs.ReadCall.{read_refusal};
-ghost use Rattle.bptc_block.specs.Refusal.{within, in_range, p_in_range, check_stored, check_candidate, check_indices, check_pixels, check_block};
+ghost use Rattle.bptc_block.specs.Refusal.{unless, within, in_range, p_in_range, check_stored, check_candidate, check_readable};
 
+use bits::writing::words;
 use bptc::Rgb;
-use bptc_block::{Candidate, Fields, PBits};
+use bptc_block::{Candidate, CandidateWords, PBits};
+use finishing::words::Accepted;
 use palette::{Mode, Mode1, Mode3};
 use refusals::Refusal;
 
@@ -21,7 +21,7 @@ fn within(c: &Rgb, top: u8) -> bool
     c.r <= top && c.g <= top && c.b <= top
 }
 
-// And of four.
+// Every channel of four colours is at most the top.
 fn in_range(ends: &[Rgb; 4], top: u8) -> bool
     ensures { result ≡ list_all (within top) ends.now }
 {
@@ -39,7 +39,8 @@ fn p_in_range(p: PBits, top: u8) -> bool
 }
 
 // The partition, the endpoint channels and the p-bits, by the greatest that the mode has.
-fn check_stored<M: Mode>(partition: u8, ends: &[Rgb; 4], p: PBits) -> Result<(), Refusal>
+#[tactic(auto, using(bptc_block::proofs::Answers::each_all))]
+pub(crate) fn check_stored<M: Mode>(partition: u8, ends: &[Rgb; 4], p: PBits) -> Result<(), Refusal>
     ensures { declined result ≡ check_stored (2 ^ M.mode.channel_bits - 1) (2 ^ M.mode.p_bits - 1) partition ends.now p 0 }
 {
     if partition > 63 {
@@ -54,16 +55,33 @@ fn check_stored<M: Mode>(partition: u8, ends: &[Rgb; 4], p: PBits) -> Result<(),
     Ok(())
 }
 
-// The mode, and then these.
+// The mode, and then what `check_stored` checks.
 #[tactic(auto, unfolding(bptc_block::specs::Refusal::check_candidate))]
 pub fn check_candidate(c: &Candidate) -> Result<(), Refusal>
     ensures { declined result ≡ check_candidate c.now 0 }
 {
+    // by number, as any is handed in: the form that the specification names
     match c.mode {
         1 => check_stored::<Mode1>(c.partition, &c.ends, c.p),
         3 => check_stored::<Mode3>(c.partition, &c.ends, c.p),
         _ => Err(Refusal::Mode),
     }
+}
+
+// The words of a candidate that `check_candidate` accepts, made here alone.
+#[tactic(auto, using(bptc_block::proofs::Refusals::good, bptc_block::proofs::WordEnds::candidate_again))]
+pub fn accepted(c: Candidate) -> Result<Accepted, Refusal>
+    ensures { MatchResult result (λ a. word_candidate a.words ≡ c) (λ r. number_of r ≡ check_candidate c 0) }
+{
+    check_candidate(&c)?;
+    Ok(Accepted {
+        words: CandidateWords {
+            mode: c.mode,
+            partition: c.partition,
+            ends: words(c.ends),
+            p: c.p,
+        },
+    })
 }
 
 // Every index is at most the top.
@@ -74,82 +92,25 @@ fn all_small(indices: &[u8; 16], top: u8) -> bool
 }
 
 // Every index is at most the mode's largest.
-fn check_indices(mode: u8, indices: &[u8; 16]) -> Result<(), Refusal>
-    ensures { declined result ≡ check_indices mode indices.now 0 }
+pub(crate) fn check_indices<M: Mode>(indices: &[u8; 16]) -> Result<(), Refusal>
+    ensures { declined result ≡ unless (list_all (λ i. leb i (largest M.mode)) indices.now) 7 0 }
 {
-    let top = match mode {
-        1 => Mode1::max_index(),
-        _ => Mode3::max_index(),
-    };
-    if all_small(indices, top) {
+    if all_small(indices, M::max_index()) {
         Ok(())
     } else {
         Err(Refusal::Index)
     }
 }
 
-// A block part of 16 bytes.
-pub(crate) fn check_block(block: &[u8]) -> Result<(), Refusal>
-    ensures { declined result ≡ check_block (length block.now) 0 }
+// The mode that a block says, if it is 1 or 3.
+pub(crate) fn mode_of(block: &[u8; 16]) -> Result<u8, Refusal>
+    ensures { MatchResult result (λ mode. (mode ≡ mode_of block.now) × (check_readable block.now 0 ≡ 0)) (λ r. number_of r ≡ check_readable block.now 0) }
 {
-    if block.len() != 16 {
-        return Err(Refusal::BlockPart);
-    }
-    Ok(())
-}
-
-// A pixel part of 48 bytes, and such a block part.
-fn check_parts(pixels: &[u8], block: &[u8]) -> Result<(), Refusal>
-    ensures { declined result ≡ check_pixels (length pixels.now) (check_block (length block.now) 0) }
-{
-    if pixels.len() != 48 {
-        return Err(Refusal::PixelPart);
-    }
-    check_block(block)
-}
-
-// The checks of `pack`.
-#[tactic(auto, using(bptc_block::proofs::Answers::candidate_then, bptc_block::proofs::Answers::unless_then), unfolding(bptc_block::specs::PackCall::pack_of))]
-pub(crate) fn check_pack(mode: u8, fields: Fields, block: &[u8]) -> Result<(), Refusal>
-    ensures { declined result ≡ pack_of mode fields block.now }
-{
-    check_block(block)?;
-    check_candidate(&Candidate {
-        mode,
-        partition: fields.partition,
-        ends: fields.ends,
-        p: PBits::Fixed(fields.p),
-    })?;
-    check_indices(mode, &fields.indices)
-}
-
-// Those of `finish`.
-#[tactic(auto, using(bptc_block::proofs::Answers::candidate_then, bptc_block::proofs::Answers::unless_then), unfolding(bptc_block::specs::FinishCall::finish_refusal))]
-pub(crate) fn check_finish(pixels: &[u8], candidate: Candidate, block: &[u8]) -> Result<(), Refusal>
-    ensures { declined result ≡ finish_refusal pixels.now candidate block.now }
-{
-    check_parts(pixels, block)?;
-    check_candidate(&candidate)
-}
-
-// Those of `read` and `measure`.
-#[tactic(auto, unfolding(bptc_block::specs::ReadCall::read_refusal, bptc_block::specs::Packed::mode_of))]
-pub(crate) fn check_read(block: &[u8], pixels: &[u8]) -> Result<(), Refusal>
-    ensures { declined result ≡ read_refusal block.now pixels.now }
-{
-    check_parts(pixels, block)?;
-    let mode = u8::trailing_zeros(block[0]);
-    match mode {
-        1 | 3 => Ok(()),
+    // by number and range: the form that the specification names
+    match u8::trailing_zeros(block[0]) {
+        1 => Ok(1),
+        3 => Ok(3),
         0 | 2 | 4..=7 => Err(Refusal::OtherMode),
         _ => Err(Refusal::Reserved),
     }
-}
-
-// The mode that a block says, 8 where byte 0 is zero. Requires sixteen bytes.
-pub(crate) fn mode_of(block: &[u8]) -> u8
-    requires { length block.now ≡ 16 }
-    ensures { result ≡ mode_of block.now }
-{
-    u8::trailing_zeros(block[0]) as u8
 }

@@ -6,22 +6,27 @@ ghost use Rattle.bptc_block.specs.Chapter.{colours};
 use bptc::Rgb;
 use bptc_block::Fields;
 use palette::Mode;
-use palette::palettes::palettes;
-use partitions::mask;
+use palette::palettes::Ends;
+use partitions::Partition;
 
 // The sixteen colours of fields. Requires that they are in range.
 pub(crate) fn colours<M: Mode>(f: Fields) -> [Rgb; 16]
     requires { Plain M.mode f }
     ensures { result ≡ colours M.mode f }
 {
-    let rows = palettes::<M>(f.ends, f.p);
-    let subsets = mask(f.partition as usize);
+    let rows = Ends::<M>::new(f.ends).palettes(f.p);
+    let partition = Partition {
+        number: f.partition,
+    };
+    // the mask once, as `subset` would look it up for each pixel
+    let subsets = partition.mask();
     let none = Rgb { r: 0, g: 0, b: 0 };
     let mut out = [none; 16];
+    // by an index: through `iter_mut` what is written of a struct does not compute in the proof, which did not close
     for i in 0..16 {
-        let row = rows[((subsets >> i) % 2) as usize];
-        let c = row[f.indices[i] as usize];
-        out[i] = Rgb::from(c.0);
+        let row = rows[usize::from((subsets >> i) % 2)];
+        let word = row[usize::from(f.indices[i])];
+        out[i] = Rgb::from(word.0);
     }
     out
 }

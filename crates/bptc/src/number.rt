@@ -18,6 +18,7 @@ impl From<u32> for Rgb {
 
     #[tactic(auto, unfolding(crate::specs::Pixels::pixel_of))]
     fn from(n: u32) -> Rgb {
+        // each narrows a value that the check proves to fit
         Rgb {
             r: (n % 256) as u8,
             g: (n / 256 % 256) as u8,

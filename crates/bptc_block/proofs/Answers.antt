@@ -5,27 +5,36 @@ use mathlib.Core.Path.{◌≡◌, refl, sym, ap, ◌∙◌}
 use mathlib.Core.Bool.{Bool, true, false}
 use mathlib.Core.List.{List, [], ◌∷◌}
 use lib.Dec.{eqb, leb}
-use lib.ListN.{length}
-use borrow.Author.Tests.{ne_eqb}
-use Rattle.std.proofs.Common.{Result, Ok, Err, ◌&&◌}
+use lib.ListN.{length, get_or}
+use borrow.Author.Tests.{eq-eqb, ne_eqb}
+use Rattle.std.proofs.Common.{Ok, Err, ◌&&◌}
 use Rattle.std.specs.List.{list_all}
 use Rattle.lists.specs.Tests.{pick, and, all}
+use Rattle.lists.specs.Rows.{over_pixels}
 use Rattle.refusals.specs.declared.Refusal.{Refusal}
-use Rattle.refusals.specs.Numbers.{number_of, declined}
+use Rattle.refusals.specs.Numbers.{number_of}
 use Rattle.refusals.proofs.Numbers.{some_number}
-use Rattle.bptc.specs.Mode.{Mode, mode_numbered}
+use Rattle.bptc.specs.Mode.{Mode, IsMode, mode_numbered, largest}
+use Rattle.bptc.specs.Colour.{black, bytes_of, colours_of, dist_sq}
+use Rattle.bptc.proofs.Modes.{by_mode}
+use Rattle.bptc_block.specs.declared.PBits.TheVariants.{Fixed}
 use Rattle.bptc_block.specs.declared.Candidate.{Candidate}
 use Rattle.bptc_block.specs.declared.Fields.{Fields}
-use Rattle.bptc_block.specs.declared.Reading.{Reading}
-use Rattle.bptc_block.specs.Refusal.{unless, is_mode, within, in_range, p_in_range, check_candidate}
+use Rattle.bptc_block.specs.Refusal.{unless, is_mode, in_range, p_in_range, check_stored, check_candidate, check_indices, check_pixels, check_block, check_readable}
 use Rattle.bptc_block.specs.Answers.{finished, measured, block_read}
-use Rattle.bptc_block.specs.PackCall.{pack_of, pack_into}
+use Rattle.bptc_block.specs.Packed.{mode_of, packed, fields_of}
+use Rattle.bptc_block.specs.Exchange.{compressed}
+use Rattle.bptc_block.specs.Fields.{Plain}
+use Rattle.bptc_block.specs.Chapter.{colours}
+use Rattle.bptc_block.specs.Finish.{finish}
+use Rattle.bptc_block.specs.PackCall.{fixed_at, pack_of, pack_into}
 use Rattle.bptc_block.specs.FinishCall.{finish_refusal, finish_of, finish_into}
 use Rattle.bptc_block.specs.ReadCall.{read_refusal, read_of, read_into}
 use Rattle.bptc_block.specs.MeasureCall.{measure_of}
-use Rattle.bptc_block.proofs.FinishCall.{finish-declined, finish_leaves}
-use Rattle.bptc_block.proofs.PackCall.{pack_leaves}
-use Rattle.bptc_block.proofs.ReadCall.{read_number, read-declined, read_leaves, measure-declined}
+use Rattle.bptc_block.proofs.FinishCall.{finish-declines, finish-declined, finish_leaves, finish-answer, finish-block}
+use Rattle.bptc_block.proofs.PackCall.{pack_leaves, pack-block, pack_plain}
+use Rattle.bptc_block.proofs.ReadCall.{read_number, read-declined, read_leaves, read_answer_lem, read-pixels, measure-declined, measure-answer}
+use Rattle.bptc_block.proofs.Distance.{distance-colours}
 
 -- the library's test of each element
 pub each_all : {A : Type 0} (f : A → Bool) (xs : List A) → list_all f xs ≡ all f xs
@@ -83,3 +92,109 @@ module _ (r : Refusal) (block px : List ℕ) where
 -- the same of `pack`
 pub pack_left : (r : Refusal) (mode : ℕ) (f : Fields) (block : List ℕ) → number_of r ≡ pack_of mode f block → block ≡ pack_into mode f block
 pack_left r mode f block e = sym (pack_leaves mode f block (declines_by r _ e))
+
+-- a pixel part of another length declines, whatever comes after
+other_pixels : (px : List ℕ) (rest : ℕ) → (length px ≡ 48 → ⊥) → 1 ≡ check_pixels (length px) rest
+other_pixels px rest ne = rw (ne_eqb (length px) 48 ne)
+
+-- then a block part
+other_block : (px block : List ℕ) (rest : ℕ) → length px ≡ 48 → (length block ≡ 16 → ⊥) → 2 ≡ check_pixels (length px) (check_block (length block) rest)
+other_block px block rest p ne = rw (eq-eqb (length px) 48 p, ne_eqb (length block) 16 ne)
+
+-- and over parts of their lengths the later checks decide
+by_rest : (px block : List ℕ) (rest : ℕ) → length px ≡ 48 → length block ≡ 16 → rest ≡ check_pixels (length px) (check_block (length block) rest)
+by_rest px block rest p b = rw (eq-eqb (length px) 48 p, eq-eqb (length block) 16 b)
+
+-- the checks of `finish`, one after the other
+module _ (px block : List ℕ) (c : Candidate) where
+  pub finish_pixels : (length px ≡ 48 → ⊥) → 1 ≡ finish_refusal px c block
+  unfolding finish_refusal
+  finish_pixels = other_pixels px _
+
+  pub finish_parts : length px ≡ 48 → (length block ≡ 16 → ⊥) → 2 ≡ finish_refusal px c block
+  unfolding finish_refusal
+  finish_parts = other_block px block _
+
+  module _ (p : length px ≡ 48) (b : length block ≡ 16) where
+    pub finish_rest : check_candidate c 0 ≡ finish_refusal px c block
+    unfolding finish_refusal
+    finish_rest = by_rest px block _ p b
+
+    -- what it gives and writes where they accept the candidate
+    module _ (accepted : check_candidate c 0 ≡ 0) where
+      ok : (finish_of px c block).refusal ≡ 0
+      ok = finish-declines px c block p b ∙ accepted
+
+      pub finish_ok : {n : ℕ} → n ≡ (finish px c).error → finished (Ok n) ≡ finish_of px c block
+      finish_ok e = rw e (sym (finish-answer px c block ok))
+
+      pub finish_written : {bs : List ℕ} → bs ≡ (finish px c).block → bs ≡ finish_into px c block
+      finish_written e = e ∙ sym (finish-block px c block ok)
+
+-- those of `read` and `measure`
+module _ (block px : List ℕ) where
+  pub read_pixels : (length px ≡ 48 → ⊥) → 1 ≡ read_refusal block px
+  unfolding read_refusal
+  read_pixels = other_pixels px _
+
+  pub read_parts : length px ≡ 48 → (length block ≡ 16 → ⊥) → 2 ≡ read_refusal block px
+  unfolding read_refusal
+  read_parts = other_block px block _
+
+  module _ (p : length px ≡ 48) (b : length block ≡ 16) where
+    pub read_rest : check_readable block 0 ≡ read_refusal block px
+    unfolding read_refusal
+    read_rest = by_rest px block _ p b
+
+    -- what they give and write where the block can be read
+    module _ (readable : check_readable block 0 ≡ 0) (m : Mode) {mode : ℕ} (own : mode ≡ mode_of block) (same : mode_numbered mode ≡ m) where
+      none : (read_of block px).refusal ≡ 0
+      none = read_number block px ∙ sym read_rest ∙ readable
+
+      is : mode_numbered (mode_of block) ≡ m
+      is = rw own at same
+
+      pub read_ok : {f : Fields} → f ≡ fields_of m block → block_read (Ok (record { mode = mode; fields = f })) ≡ read_of block px
+      read_ok e = rw (e, own) (sym (rw is at (read_answer_lem block px none)))
+
+      pub read_written : {bs : List ℕ} → bs ≡ bytes_of (colours m (fields_of m block)) → bs ≡ read_into block px
+      read_written e = e ∙ sym (rw is at (read-pixels block px none))
+
+      pub measure_ok : {n : ℕ} → n ≡ over_pixels (λ (i : ℕ). dist_sq (get_or (colours_of px) i black) (get_or (colours m (fields_of m block)) i black)) →
+          measured (Ok n) ≡ measure_of block px
+      measure_ok e =
+          ap (λ (n : ℕ). record { refusal = 0; error = n }) (e ∙ sym (rw is at (distance-colours px block))) ∙ sym (measure-answer block px none)
+
+-- a mode is the one that its number says
+by_number : (m : Mode) → IsMode m → (mode_numbered m.number ≡ m) × (is_mode m.number ≡ true)
+by_number = by_mode (λ (m : Mode). (mode_numbered m.number ≡ m) × (is_mode m.number ≡ true)) (refl, refl) (refl, refl)
+
+-- those of `pack`
+module _ (f : Fields) (block : List ℕ) where
+  pub pack_part : (mode : ℕ) → (length block ≡ 16 → ⊥) → 2 ≡ pack_of mode f block
+  unfolding pack_of
+  pack_part mode ne = rw (ne_eqb (length block) 16 ne)
+
+  module _ (b : length block ≡ 16) where
+    pub pack_mode : (mode : ℕ) → (mode ≡ 1 → ⊥) → (mode ≡ 3 → ⊥) → 3 ≡ pack_of mode f block
+    unfolding pack_of check_candidate
+    pack_mode mode one three = rw (eq-eqb (length block) 16 b, ne_eqb mode 1 one, ne_eqb mode 3 three)
+
+    -- by the numbers of the two groups of checks of a mode
+    pub pack_stored : (m : Mode) → IsMode m → {stored indices : ℕ} →
+        stored ≡ check_stored (2 ^ m.channel_bits - 1) (2 ^ m.p_bits - 1) f.partition f.ends (Fixed f.p) 0 →
+        indices ≡ unless (list_all (λ (i : ℕ). leb i (largest m)) f.indices) 7 0 → pick (eqb stored 0) indices stored ≡ pack_of m.number f block
+    unfolding pack_of check_candidate
+    pack_stored m known {stored} {indices} e k =
+        let (same, mode) = by_number m known in
+        let own : check_candidate (fixed_at m.number f) 0 ≡ stored = rw (mode, same) (sym e) in
+        let rest : check_indices m.number f.indices 0 ≡ indices = rw (same, ← each_all (λ (i : ℕ). leb i (largest m)) f.indices) (sym k) in
+        rw (eq-eqb (length block) 16 b, candidate_then (fixed_at m.number f) (check_indices m.number f.indices 0), own, rest)
+
+  -- what is packed and written where they decline nothing
+  module _ (m : Mode) (known : IsMode m) (e : 0 ≡ pack_of m.number f block) where
+    pub pack_in_range : length f.ends ≡ 4 → length f.indices ≡ 16 → Plain m f
+    pack_in_range four sixteen = rw (by_number m known).0 at (pack_plain m.number f block (sym e) four sixteen)
+
+    pub pack_written : {bs : List ℕ} → bs ≡ packed m (compressed m f) → bs ≡ pack_into m.number f block
+    pack_written own = own ∙ sym (rw (by_number m known).0 at (pack-block m.number f block (sym e)))

@@ -21,3 +21,4 @@ pub mod FinishCall
 pub mod Promise
 pub mod WordEnds
 pub mod Answers
+pub mod Worked

@@ -4,7 +4,7 @@ use native.Mathlib.Omega.{arith}
 use mathlib.Core.Path.{◌≡◌, refl, sym, ◌∙◌}
 use mathlib.Core.Logic.{inl, inr}
 use mathlib.Core.List.{List}
-use lib.Dec.{eqb, ltb}
+use lib.Dec.{eqb}
 use lib.ListN.{length, get_or}
 use borrow.Author.Tests.{eqb-true, eq-eqb, ne_eqb, lt-ltb}
 use Rattle.lists.specs.Digits.{zeros_below}
@@ -16,11 +16,11 @@ use Rattle.bptc.proofs.ColourBounds.{bytes-length}
 use Rattle.bptc_block.specs.Answers.{Measured, BlockRead, reading_of, unread}
 use Rattle.bptc_block.specs.Packed.{mode_of, fields_of}
 use Rattle.bptc_block.specs.Chapter.{colours, distance}
-use Rattle.bptc_block.specs.Refusal.{is_mode, check_block, check_readable}
+use Rattle.bptc_block.specs.Refusal.{check_block, check_readable}
 use Rattle.bptc_block.specs.Checks.{NotDeclined, PixelsChecked, BlockChecked, ReadableChecked}
 use Rattle.bptc_block.specs.ReadCall.{read_refusal, read_of, read_into}
 use Rattle.bptc_block.specs.MeasureCall.{measure_of}
-use Rattle.bptc_block.proofs.Refusals.{number_said, passed, one_or_three, is_mode_lem}
+use Rattle.bptc_block.proofs.Refusals.{number_said, passed, is_mode_lem}
 use Rattle.bptc_block.proofs.Checks.{pixels-checked, block-checked, readable_checked}
 
 -- a block that says mode 1 or 3 does not begin with a zero byte
@@ -90,12 +90,6 @@ module _ (block px : List ℕ) where
     unfolding measure_of
     measure-answer = rw no_refusal
 
-    after_lengths : check_readable block 0 ≡ 0
-    unfolding read_refusal
-    after_lengths =
-        let e : check_block (length block) (check_readable block 0) ≡ 0 = (passed (eqb (length px) 48) 0 _ no_refusal).1 in
-        (passed (eqb (length block) 16) 1 _ e).1
-
     -- the pixels are 48 bytes
     pub read-pixels-length : length px ≡ 48
     unfolding read_refusal
@@ -107,10 +101,6 @@ module _ (block px : List ℕ) where
     read-sixteen =
         let e : check_block (length block) (check_readable block 0) ≡ 0 = (passed (eqb (length px) 48) 0 _ no_refusal).1 in
         eqb-true (length block) 16 (passed (eqb (length block) 16) 1 _ e).0
-
-    -- and its mode is one of the two
-    pub read_known : Known (mode_of block)
-    read_known = one_or_three (mode_of block) (passed (is_mode (mode_of block)) 8 0 (passed (ltb 0 (get_or block 0 0)) 7 _ after_lengths).1).0
 
   -- the part keeps its length
   pub read_length : length (read_into block px) ≡ length px

@@ -1,5 +1,5 @@
 -- The refusal of a block to be read, by the zero bits below the lowest one bit of byte 0: one test that antt computes over the bytes.
-use Prim.Native.Nat.{ℕ, ◌%◌, ◌≤◌, ◌<◌}
+use Prim.Native.Nat.{ℕ, ◌%◌, ◌<◌}
 use native.Mathlib.Omega.{arith}
 use mathlib.Core.Path.{◌≡◌, sym, ap, ◌∙◌}
 use mathlib.Core.Bool.{Bool}
@@ -8,7 +8,7 @@ use mathlib.Core.List.{List}
 use lib.Count.{count_trailing_zeros}
 use lib.Dec.{ltb, eqb, eqb→eq}
 use lib.ListN.{get_or}
-use borrow.Author.Tests.{ne_eqb, lt-ltb, le-ltb}
+use borrow.Author.Tests.{ne_eqb, lt-ltb}
 use Rattle.lists.specs.Tests.{pick}
 use Rattle.lists.specs.Digits.{zeros_below}
 use Rattle.lists.proofs.Tables.{tested}
@@ -37,10 +37,6 @@ readable block h = by_byte (get_or block 0 0) h ∙ ap by_zeros (sym (zeros_is 8
 -- of a mode that is not 1 or 3
 pub zeros-other : (z : ℕ) → (Known z → ⊥) → z < 8 → by_zeros z ≡ 9
 zeros-other z n h = rw (ne_eqb z 1 (λ e. n (inl e)), ne_eqb z 3 (λ e. n (inr e)), lt-ltb z 8 h)
-
--- of no mode
-pub zeros-none : (z : ℕ) → 8 ≤ z → by_zeros z ≡ 8
-zeros-none z h = rw (ne_eqb z 1 (λ e. omega arith), ne_eqb z 3 (λ e. omega arith), le-ltb z 8 h)
 
 -- a block says mode 1 or 3 by the lowest bits of byte 0
 pub says_known : (block : List ℕ) → (get_or block 0 0 % 4 ≡ 2) ⊎ (get_or block 0 0 % 16 ≡ 8) → Known (mode_of block)

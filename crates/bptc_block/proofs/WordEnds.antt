@@ -41,7 +41,7 @@ module _ (m : Mode) (known : IsMode m) (ends : List Rgb) (four : length ends ≡
       ∙ rw (again 0 (omega arith), again 1 (omega arith), again 2 (omega arith), again 3 (omega arith)) es
 
 -- a candidate that the checks accept is the one that its numbers stand for
-pub candidate-again : (c : Candidate) → Good c → length c.ends ≡ 4 → word_candidate (record { mode = c.mode; partition = c.partition; ends = map pixel_word c.ends; p = c.p }) ≡ c
-candidate-again c fit four =
+pub candidate_again : (c : Candidate) → Good c → length c.ends ≡ 4 → word_candidate (record { mode = c.mode; partition = c.partition; ends = map pixel_word c.ends; p = c.p }) ≡ c
+candidate_again c fit four =
     ap (λ (es : List Rgb). record { mode = c.mode; partition = c.partition; ends = es; p = c.p })
     (words-again (mode_numbered c.mode) (numbered c.mode) c.ends four (λ k h. fit.stored k (omega arith)))

@@ -7,6 +7,7 @@ pub mod Refusal
 pub mod Checks
 pub mod Ranges
 pub mod Answers
+pub mod Worked
 pub mod PackCall
 pub mod ReadCall
 pub mod MeasureCall

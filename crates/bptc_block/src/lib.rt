@@ -14,7 +14,8 @@ pub struct Fields {
     pub indices: [u8; 16],
 }
 
-// The same fields in fewer numbers: an endpoint is one, red lowest, and so are the sixteen indices.
+// The same fields in fewer numbers: an endpoint is one, red lowest, and so are the sixteen indices. No type serves both, since definitions
+// name the record of each.
 #[derive(Clone, Copy)]
 pub struct Words {
     pub partition: u8,
@@ -30,7 +31,7 @@ pub enum PBits {
     Fixed(u8),
 }
 
-// A proposal for a block.
+// A proposal for a block. The mode is any number, as the calls tell modes apart by number and decline the others.
 #[derive(Clone, Copy)]
 pub struct Candidate {
     pub mode: u8,
@@ -39,7 +40,7 @@ pub struct Candidate {
     pub p: PBits,
 }
 
-// The same proposal in fewer numbers: an endpoint is one, red lowest.
+// The same proposal in fewer numbers: an endpoint is one, red lowest. As with `Words`, no type serves both.
 #[derive(Clone, Copy)]
 pub struct CandidateWords {
     pub mode: u8,
@@ -48,7 +49,7 @@ pub struct CandidateWords {
     pub p: PBits,
 }
 
-// What `read` gives of a block; its pixels stand in the lent part.
+// What `read` gives of a block; its pixels stand in the lent part. The mode is its number, as the specification has it.
 #[derive(Clone, Copy)]
 pub struct Reading {
     pub mode: u8,

@@ -8,7 +8,7 @@ use chooser::Chooser;
 use std::io;
 
 // The lists.
-const LISTS: u8 = 64;
+const LISTS: usize = 64;
 
 // The calls in each.
 const CALLS: u32 = 12;
@@ -21,7 +21,7 @@ const REASONS: [Refusal; 4] = [
     Refusal::PBits,
 ];
 
-// A block and its error.
+// A block and its error. Before any offer the error is the greatest, as a chooser holds it.
 #[derive(Clone, Copy)]
 struct Least {
     block: [u8; 16],
@@ -40,7 +40,7 @@ struct Run<'a> {
     wrong: u32,
 }
 
-// A candidate spoiled so that it is refused for this reason.
+// A candidate spoiled so that it is refused for this reason, one of `REASONS`, of which the last is matched by `_`.
 fn spoiled(c: Candidate, reason: Refusal) -> Candidate {
     match reason {
         Refusal::Mode => Candidate {
@@ -168,9 +168,8 @@ fn print_list(rt: &impl Print, generator: &mut Generator, kind: Kind) -> io::Res
 pub(crate) fn print_lists(rt: &impl Print) -> io::Result<()> {
     let mut generator = Generator::new(0);
     let mut wrong: u32 = 0;
-    for k in 0..LISTS {
-        let kind = KINDS[usize::from(k % 6)];
-        wrong = wrong.saturating_add(print_list(rt, &mut generator, kind)?);
+    for kind in KINDS.iter().cycle().take(LISTS) {
+        wrong = wrong.saturating_add(print_list(rt, &mut generator, *kind)?);
     }
     println!(rt; "wrong {wrong}")
 }

@@ -103,8 +103,9 @@ fn print_offer(rt: &impl Print, chooser: Chooser, c: Candidate) -> io::Result<Ch
     Ok(back)
 }
 
-// The refusals of offer: one reason each, and then several, of which the first is told.
-pub(crate) fn print_declined(rt: &impl Print) -> io::Result<()> {
+// The refusals of offer by the candidate: one reason each, and then several, of which the first is told. Behind them the offers beside
+// them that are not declined; the last two have the error that is held.
+pub(crate) fn print_numbers(rt: &impl Print) -> io::Result<()> {
     let chooser = holding();
     for (mode, partition, last, p) in [
         (0, 0, 0, 0),
@@ -121,16 +122,6 @@ pub(crate) fn print_declined(rt: &impl Print) -> io::Result<()> {
         (1, 64, 64, 4),
         (1, 63, 64, 4),
         (3, 63, 128, 16),
-    ] {
-        print_offer(rt, chooser, candidate(mode, partition, last, p))?;
-    }
-    Ok(())
-}
-
-// The offers beside them that are not declined; the last two have the error that is held.
-pub(crate) fn print_accepted(rt: &impl Print) -> io::Result<()> {
-    let chooser = holding();
-    for (mode, partition, last, p) in [
         (3, 0, 64, 0),
         (3, 0, 127, 0),
         (1, 0, 63, 0),

@@ -84,6 +84,7 @@ pub(crate) fn print_greys(rt: &impl Print) -> io::Result<()> {
 
 // Pixels of one grey in mode 3, with every channel 0: the indices that are read of the block, the answer and the block.
 // Where their p-bits differ, endpoints stored alike show two colours; of indices of one colour the lowest is taken, before the exchange.
+// Of a block that is not read the indices printed are 0.
 pub(crate) fn print_indices(rt: &impl Print, grey: u8, p: u8) -> io::Result<()> {
     let mut block = [0u8; 16];
     let finished = Answer(block::finish(&[grey; 48], candidate(3, 0, 0, p), &mut block));
@@ -108,7 +109,7 @@ fn print_finish(rt: &impl Print, pixels: &[u8], c: Candidate, part: &mut [u8]) -
     println!(rt; "finish {finished} {}", changed(part))
 }
 
-// The refusals of finish by the lengths of its parts.
+// The refusals of finish by the lengths of its parts. These are cut to each length, as arrays of one length would not be refused.
 pub(crate) fn print_lengths(rt: &impl Print) -> io::Result<()> {
     let pixels = [0u8; 49];
     let mut part = [0u8; 17];
@@ -124,7 +125,7 @@ pub(crate) fn print_lengths(rt: &impl Print) -> io::Result<()> {
     Ok(())
 }
 
-// Those by the candidate, and the calls beside them that are not declined.
+// The refusals of finish by the candidate, and the calls beside them that are not declined.
 pub(crate) fn print_numbers(rt: &impl Print) -> io::Result<()> {
     let mut part = [0u8; 16];
     for (mode, partition, last, p) in [

@@ -59,7 +59,7 @@ impl Generator {
         }
     }
 
-    // Draws a byte.
+    // Draws a byte; cast, as it is below 256.
     fn next(&mut self) -> u8 {
         self.seed = self.seed.wrapping_mul(1103515245).wrapping_add(12345) % 2147483648;
         (self.seed / 65536 % 256) as u8

@@ -1,7 +1,7 @@
 // Bytes in hexadecimal.
 use std::fmt;
 
-// Prints two digits of each byte.
+// Prints two digits of each byte. `{:02x?}` of a slice puts brackets and commas between them.
 #[derive(Clone, Copy)]
 pub(crate) struct Hex<'a>(pub(crate) &'a [u8]);
 

@@ -39,8 +39,7 @@ fn main(rt: HostRuntime) -> io::Result<()> {
     chooses::print_worked(&rt)?;
     chooses::print_starts(&rt)?;
     chooses::print_takes(&rt)?;
-    chooses::print_declined(&rt)?;
-    chooses::print_accepted(&rt)?;
+    chooses::print_numbers(&rt)?;
     chooses::print_made_up(&rt, 0)?;
     chooses::print_made_up(&rt, u32::MAX)?;
     call_lists::print_lists(&rt)?;

@@ -7,7 +7,7 @@ pub(crate) enum Mode {
     Three = 3,
 }
 
-// The number of the mode.
+// The number of the mode: an enum's own, which only a cast gives.
 impl From<Mode> for u8 {
     fn from(mode: Mode) -> u8 {
         mode as u8

@@ -15,7 +15,8 @@ fn print_order(rt: &impl Print, drawn: &Drawn, order: [u8; 4]) -> io::Result<()>
     print_held(rt, " held", chooser)
 }
 
-// Draws pixels of a kind, and offers four drawn candidates over them in every order.
+// Draws pixels of a kind, and offers four drawn candidates over them in every order: the digits to the base 4 of a byte, where no two of them
+// are the same. The kind is cast, an enum's own number.
 pub(crate) fn print_orders(rt: &impl Print, kind: Kind) -> io::Result<()> {
     let drawn = Drawn::new(&mut Generator::new(kind as u32), kind);
     for k in 0..=255u8 {

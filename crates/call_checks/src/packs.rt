@@ -44,7 +44,8 @@ fn print_pack(rt: &impl Print, mode: u8, fields: Fields, part: &mut [u8]) -> io:
     println!(rt; "pack {} {}", number(packed), changed(part))
 }
 
-// The refusals of pack by the length of the block part.
+// The refusals of pack by the length of the block part, which is cut to each length, as an array of one length would not be refused. Pack,
+// finish and read have a function each, since each is another call.
 pub(crate) fn print_lengths(rt: &impl Print) -> io::Result<()> {
     let mut bytes = [0u8; 17];
     for (mode, length) in [(1, 0), (1, 15), (2, 17)] {
@@ -53,7 +54,7 @@ pub(crate) fn print_lengths(rt: &impl Print) -> io::Result<()> {
     Ok(())
 }
 
-// Those by the numbers handed in, and the calls beside them that are not declined.
+// The refusals of pack by the numbers handed in, and the calls beside them that are not declined.
 pub(crate) fn print_numbers(rt: &impl Print) -> io::Result<()> {
     let mut part = [0u8; 16];
     for (mode, partition, channel, p, index) in [

@@ -68,7 +68,8 @@ pub(crate) fn print_first_bytes(rt: &impl Print) -> io::Result<()> {
     Ok(())
 }
 
-// The refusals of read and measure by the lengths of their parts.
+// The refusals of read and measure by the lengths of their parts. These are cut to each length, as arrays of one length would not be
+// refused.
 pub(crate) fn print_lengths(rt: &impl Print) -> io::Result<()> {
     let block = [2u8; 17];
     let mut pixels = [0u8; 49];
@@ -111,14 +112,14 @@ impl Sum {
         self.add_bytes(pixels);
     }
 
-    // Takes in an error, the lower half first.
+    // Takes in an error, the lower half first; cast, as each is below 65536.
     fn add_error(&mut self, error: u32) {
         self.add((error % 65536) as u16);
         self.add((error / 65536) as u16);
     }
 }
 
-// A picture to measure against.
+// A picture to measure against; cast, as 235 is the greatest.
 fn ramp() -> [u8; 48] {
     array::from_fn(|i| (i * 5) as u8)
 }

@@ -11,7 +11,7 @@ use search::Layout;
 // Four choices of four colours.
 pub struct Choices;
 
-// The least key of a column.
+// The least key of a column. Requires one of the four.
 fn least4(keys: &[u32; 16], c: usize) -> u32
     requires { c < 4 }
     ensures { result ≡ least_of4 (λ row. slice_index keys.now (c + row * 4)) }
@@ -19,7 +19,7 @@ fn least4(keys: &[u32; 16], c: usize) -> u32
     keys[c].min(keys[c + 4]).min(keys[c + 8].min(keys[c + 12]))
 }
 
-// The least of the four keys of a choice in each column.
+// The least of the four keys of a choice in each column, the columns by name, as a closure over their places says no more.
 impl Layout for Choices {
     const WIDTH: usize = 16;
 

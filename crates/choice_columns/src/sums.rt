@@ -6,7 +6,7 @@ ghost use Rattle.lists.specs.Bits.{join};
 ghost use Rattle.closest.specs.Found.{over_second};
 ghost use Rattle.choice_columns.specs.Columns.{column_at};
 
-// Four numbers times BY, each with one more term. Requires that they fit.
+// Four numbers times BY, each with one more term; by name, as the compiler makes one vector of them. Requires that they fit.
 fn grown<const BY: u32>(n: [u32; 4], terms: [u32; 4]) -> [u32; 4]
     requires { (k : ℕ) → slice_index n k * BY + slice_index terms k < 2 ^ 32 }
     ensures { result ≡ (slice_index n 0 * BY + slice_index terms 0) ∷ ((slice_index n 1 * BY + slice_index terms 1) ∷ ((slice_index n 2 * BY + slice_index terms 2) ∷ ((slice_index n 3 * BY + slice_index terms 3) ∷ []))) }
@@ -19,7 +19,8 @@ fn grown<const BY: u32>(n: [u32; 4], terms: [u32; 4]) -> [u32; 4]
     ]
 }
 
-// What the least keys of four columns tell.
+// What the least keys of four columns tell. A struct and no tuple, since contracts name its parts; each of these is one
+// vector.
 #[derive(Clone, Copy)]
 pub struct ColumnSums {
     pub all: [u32; 4],
@@ -27,7 +28,7 @@ pub struct ColumnSums {
     pub words: [u32; 4],
 }
 
-// A number with all bits set where bit i of a mask is, and 0 elsewhere.
+// A number with all bits set where bit i of a mask is, and 0 elsewhere. Requires one of the sixteen pixels, as a loop counts them.
 fn all_ones(mask: u32, i: usize) -> u32
     requires { i < 16 }
     ensures { result ≡ bit mask i * (2 ^ 32 - 1) }
@@ -36,7 +37,7 @@ fn all_ones(mask: u32, i: usize) -> u32
 }
 
 // The raised distances of all pixels and of those of subset 1, and the indices as one number, in each column, from the last pixel down.
-// Requires keys below 2 ^ 23.
+// Requires keys below 2 ^ 23, as those of the search are. The loop has an index, since it goes down the columns and the mask.
 pub fn column_sums(columns: &[[u32; 4]; 16], mask: u32) -> ColumnSums
     requires { (c i : ℕ) → column_at columns.now c i < 2 ^ 23 }
     ensures all { result.all ≡ map (λ c. over_pixels (λ i. column_at columns.now c i / 8)) (up_from 0 4) }
@@ -47,8 +48,7 @@ pub fn column_sums(columns: &[[u32; 4]; 16], mask: u32) -> ColumnSums
     let mut second = [0u32; 4];
     let mut words = [0u32; 4];
     // each result has a name first: the prover covers no call whose result goes into an array that is read in it
-    for k in 0..16 {
-        let i = 15 - k;
+    for i in (0..16).rev() {
         let s = all_ones(mask, i);
         let [a, b, c, d] = columns[i];
         let more = grown::<1>(all, [a / 8, b / 8, c / 8, d / 8]);

@@ -1,5 +1,5 @@
 -- Mode 3 at free p-bits: the first column of least sum is the choice that each subset keeps.
-use Prim.Native.Nat.{ℕ, ◌+◌, ◌-◌, ◌*◌, ◌/◌, ◌%◌, ◌^◌, ◌<◌}
+use Prim.Native.Nat.{ℕ, ◌+◌, ◌-◌, ◌*◌, ◌/◌, ◌%◌, ◌<◌}
 use native.Mathlib.Omega.{arith}
 use mathlib.Core.Path.{◌≡◌, sym, ap, ap₂, ◌∙◌}
 use mathlib.Core.List.{List, [], ◌∷◌, map}
@@ -9,11 +9,8 @@ use Rattle.bptc.specs.declared.Rgb.{Rgb}
 use Rattle.lists.specs.Tests.{all}
 use Rattle.lists.specs.Rows.{up_from}
 use Rattle.lists.specs.Least.{first_least}
-use Rattle.lists.specs.Digits.{bit}
-use Rattle.bptc.specs.Mode.{mode3, largest}
+use Rattle.bptc.specs.Mode.{mode3}
 use Rattle.bptc.specs.Partition.{mask_of, ones_of}
-use Rattle.bptc.specs.Colour.{black}
-use Rattle.bptc.proofs.NearestIndex.{nearest_small}
 use Rattle.lists.proofs.Rows.{get_or-each, up_from-below}
 use Rattle.lists.proofs.Least.{least-same}
 use Rattle.lists.proofs.Tables.{tested}
@@ -21,12 +18,11 @@ use Rattle.bptc_block.specs.declared.PBits.TheVariants.{Free}
 use Rattle.bptc_block.specs.Finish.{other_bits, bits_for, joined_bits}
 use Rattle.bptc_block.proofs.Modes.{lawful}
 use Rattle.closest.specs.declared.pick.Picked.{Picked}
-use Rattle.closest.specs.Found.{index_in, indexes_in}
+use Rattle.closest.specs.Found.{indexes_in}
 use Rattle.choices.specs.Choices.{column_bits}
 use Rattle.closest.specs.Pick.{mixed, picked_for}
 use Rattle.choices.proofs.Picking.{mixed-picked}
 use Rattle.choices.proofs.Subsets.{over, bits-raised}
-use Rattle.choice_columns.proofs.FourSums.{joined_lt}
 use Rattle.choices.proofs.BestOfFour.{least-map}
 
 -- what is left of four sums when four others are taken away
@@ -35,11 +31,6 @@ pub four-left : (f g : ℕ → ℕ) (xs ys : List ℕ) → xs ≡ map (λ (c : �
 four-left f g xs ys e h =
     let left : (c : ℕ) → f c + g c - g c ≡ f c = λ c. omega arith in
     rw (e, h) (λ t. left 0 t ∷ (left 1 t ∷ (left 2 t ∷ (left 3 t ∷ []))))
-
--- sixteen indices are a number of 32 bits
-pub word_small : (ends : List Rgb) (p mask : ℕ) (cs : List Rgb) → indexes_in mode3 ends p mask cs < 2 ^ 32
-unfolding indexes_in largest
-word_small ends p mask cs = joined_lt (index_in mode3 ends p mask cs) (λ i. omega (arith, nearest_small mode3 ends p (bit mask i) (get_or cs i black))) 16 0
 
 -- the p-bits of two columns
 pub joined_columns : (i j : ℕ) → i < 4 → j < 4 → (i % 2 * 2 + i / 2) + (j % 2 * 2 + j / 2) * 4 ≡ joined_bits mode3 (column_bits i) (column_bits j)

@@ -4,14 +4,14 @@ ghost use Rattle.lists.specs.Least.{first_least};
 
 use closest::pick::either;
 
-// A column and its sum.
+// A column and its sum. A struct and no tuple, since contracts name its parts.
 #[derive(Clone, Copy)]
 pub struct Best {
     pub at: u32,
     pub sum: u32,
 }
 
-// The first of four columns that has the least sum.
+// The first of four columns that has the least sum, by `either`, so that no branch hangs on the sums.
 pub(crate) fn best4(s: [u32; 4]) -> Best
     ensures at { result.at ≡ first_least (λ k. get_or s k 0) 0 (1 ∷ (2 ∷ (3 ∷ []))) }
     ensures sum { result.sum ≡ get_or s result.at 0 }

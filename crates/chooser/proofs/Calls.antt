@@ -25,9 +25,9 @@ use Rattle.chooser.specs.Calls.{held}
 
 module _ (px : List ℕ) where
   -- the answer of a start
-  pub start-answer : start_of px ≡ record { refusal = start_refusal px; chooser = empty_over (started_over px) }
+  pub start_answer : start_of px ≡ record { refusal = start_refusal px; chooser = empty_over (started_over px) }
   unfolding start_of
-  start-answer = refl
+  start_answer = refl
 
   -- over 48 bytes
   pub started_own : length px ≡ 48 → started_over px ≡ px
@@ -63,14 +63,14 @@ module _ (ch : Chooser) (c : Candidate) where
   offer-number = number_said (λ (o : Offered). o.refusal) (offer_refusal c) refl refl
 
   -- a declined one
-  pub offer-declined : (offer_refusal c ≡ 0 → ⊥) → offer_of ch c ≡ record { refusal = offer_refusal c; chooser = ch }
+  pub offer_declined : (offer_refusal c ≡ 0 → ⊥) → offer_of ch c ≡ record { refusal = offer_refusal c; chooser = ch }
   unfolding offer_of
-  offer-declined ne = rw (ne_eqb (offer_refusal c) 0 ne)
+  offer_declined ne = rw (ne_eqb (offer_refusal c) 0 ne)
 
   -- an accepted one
-  pub offer-accepted : offer_refusal c ≡ 0 → offer_of ch c ≡ record { refusal = 0; chooser = accepting ch c }
+  pub offer_accepted : offer_refusal c ≡ 0 → offer_of ch c ≡ record { refusal = 0; chooser = accepting ch c }
   unfolding offer_of
-  offer-accepted ok = rw ok
+  offer_accepted ok = rw ok
 
 -- what finishing promises of an accepted candidate
 pub gives_keeps : (px : List ℕ) (c : Candidate) → length px ≡ 48 → length c.ends ≡ 4 → offer_refusal c ≡ 0 →
@@ -99,26 +99,26 @@ module _ (ch : Chooser) (part : List ℕ) where
   -- lent 16 bytes
   module _ (sixteen : length part ≡ 16) where
     -- it answers the error
-    pub take-answer : take_of ch part ≡ record { answer = record { refusal = 0; error = ch.error }; chooser = ch }
+    pub take_answer : take_of ch part ≡ record { answer = record { refusal = 0; error = ch.error }; chooser = ch }
     unfolding take_of
-    take-answer = rw (eq-eqb (length part) 16 sixteen)
+    take_answer = rw (eq-eqb (length part) 16 sixteen)
 
     -- and gives the block
-    pub take-block : take_into ch part ≡ ch.block
+    pub take_block : take_into ch part ≡ ch.block
     unfolding take_into
-    take-block = rw (eq-eqb (length part) 16 sixteen)
+    take_block = rw (eq-eqb (length part) 16 sixteen)
 
     -- so what is held is what the chooser keeps
     pub held_kept : held ch part ≡ kept ch
     unfolding held
-    held_kept = rw (take-block, take-answer)
+    held_kept = rw (take_block, take_answer)
 
   -- lent any other number
   module _ (other : length part ≡ 16 → ⊥) where
     -- it declines
-    pub take-declined : take_of ch part ≡ record { answer = record { refusal = 2; error = 0 }; chooser = ch }
+    pub take_declined : take_of ch part ≡ record { answer = record { refusal = 2; error = 0 }; chooser = ch }
     unfolding take_of
-    take-declined = rw (ne_eqb (length part) 16 other)
+    take_declined = rw (ne_eqb (length part) 16 other)
 
     -- and leaves the part as it was
     pub take_leaves : take_into ch part ≡ part

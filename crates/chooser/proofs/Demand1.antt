@@ -11,7 +11,7 @@ use Rattle.bptc_block.proofs.ReadCall.{read_number, read-checked, read-declined,
 use Rattle.bptc_block.proofs.FinishCall.{finish-number, finish-checked, finish-declined, finish_leaves}
 use Rattle.chooser.specs.Answers.{Offered, Took}
 use Rattle.chooser.specs.Demand1.{Demand1}
-use Rattle.chooser.proofs.Calls.{start-answer, started_own, started_black, offer-number, offer-declined, take-number, take-answer, take-declined, take_leaves, take-keeps}
+use Rattle.chooser.proofs.Calls.{start_answer, started_own, started_black, offer-number, offer_declined, take-number, take_answer, take_declined, take_leaves, take-keeps}
 
 pub demand1 : Demand1
 demand1 =
@@ -26,20 +26,20 @@ demand1 =
           };
       start = λ px.
           record {
-            checked = rw (start-answer px) (pixels-checked NotDeclined 0 px refl);
-            left = λ ne. rw (start-answer px, started_black px (λ e. ne (rw (start-answer px, eq-eqb (length px) 48 e))));
+            checked = rw (start_answer px) (pixels-checked NotDeclined 0 px refl);
+            left = λ ne. rw (start_answer px, started_black px (λ e. ne (rw (start_answer px, eq-eqb (length px) 48 e))));
           };
       offer = λ ch c.
           record {
             checked = subst (CandidateChecked c NotDeclined) (sym (offer-number ch c)) (candidate-checked NotDeclined 0 c (λ known. refl));
-            left = λ ne. ap (λ (o : Offered). o.chooser) (offer-declined ch c (λ e. ne (offer-number ch c ∙ e)));
+            left = λ ne. ap (λ (o : Offered). o.chooser) (offer_declined ch c (λ e. ne (offer-number ch c ∙ e)));
           };
       take = λ ch block.
           record {
             checked = subst (BlockChecked block NotDeclined) (sym (take-number ch block)) (block-checked NotDeclined 0 block refl);
             left = λ ne.
-                let other : length block ≡ 16 → ⊥ = λ e. ne (ap (λ (t : Took). t.answer.refusal) (take-answer ch block e)) in
-                (ap (λ (t : Took). t.answer.error) (take-declined ch block other), take_leaves ch block other);
+                let other : length block ≡ 16 → ⊥ = λ e. ne (ap (λ (t : Took). t.answer.refusal) (take_answer ch block e)) in
+                (ap (λ (t : Took). t.answer.error) (take_declined ch block other), take_leaves ch block other);
           };
       read = λ block px.
           record {
@@ -51,6 +51,6 @@ demand1 =
             checked = subst (PixelsChecked px (BlockChecked block (ReadableChecked block NotDeclined))) (sym (measure-number block px)) (read-checked block px);
             left = λ ne. ap (λ (a : Measured). a.error) (measure-declined block px (λ e. ne (measure-number block px ∙ e)));
           };
-      starts = λ px own. rw (start-answer px, started_own px own);
+      starts = λ px own. rw (start_answer px, started_own px own);
       keeps = take-keeps;
     }

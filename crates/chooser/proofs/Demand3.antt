@@ -23,7 +23,7 @@ use Rattle.chooser.specs.StartCall.{empty_over, started_over, start_of}
 use Rattle.chooser.specs.OfferCall.{offer_refusal, finish_gives, kept, accepting}
 use Rattle.chooser.specs.Calls.{Call, offer, take, after, accepted, held}
 use Rattle.chooser.specs.Demand3.{Promise, SomeAccepted, FourEnds, Demand3, BeforeAny}
-use Rattle.chooser.proofs.Calls.{start-answer, started_own, started_black, started_bytes, started_length, offer_cases, gives_keeps, take-keeps, held_kept}
+use Rattle.chooser.proofs.Calls.{start_answer, started_own, started_black, started_bytes, started_length, offer_cases, gives_keeps, take-keeps, held_kept}
 
 -- accepted offers one after the other, from a chooser to the one after them
 data AcceptedOffers : Chooser → List Candidate → Chooser → Type 0 where
@@ -85,7 +85,7 @@ pub demand3 : Demand3
 demand3 px calls part bytes four some sixteen =
     let ch : Chooser = (start_of px).chooser in
     let all : AcceptedOffers (empty_over (started_over px)) (accepted ch calls) (after ch calls) =
-    subst (λ (s : Started). AcceptedOffers s.chooser (accepted ch calls) (after ch calls)) (start-answer px) (accepted-offers calls ch) in
+    subst (λ (s : Started). AcceptedOffers s.chooser (accepted ch calls) (after ch calls)) (start_answer px) (accepted-offers calls ch) in
     let over : Promise (started_over px) (accepted ch calls) (held (after ch calls) part) =
     promise (started_over px) part sixteen (accepted ch calls) all (started_length px) (started_bytes px bytes) four some in
     (λ own. rw (started_own px own) at over, λ other. rw (started_black px other) at over)
@@ -95,7 +95,7 @@ pub before_any : BeforeAny
 before_any px calls part nothing sixteen =
     let ch : Chooser = (start_of px).chooser in
     let end : after ch calls ≡ ch = stays (subst (λ (cs : List Candidate). AcceptedOffers ch cs (after ch calls)) nothing (accepted-offers calls ch)) in
-    ap (λ (k : Chooser). held k part) end ∙ held_kept ch part sixteen ∙ ap (λ (s : Started). kept s.chooser) (start-answer px)
+    ap (λ (k : Chooser). held k part) end ∙ held_kept ch part sixteen ∙ ap (λ (s : Started). kept s.chooser) (start_answer px)
   where
     stays : {ch end : Chooser} → AcceptedOffers ch [] end → end ≡ ch
     stays none = refl

@@ -2,3 +2,4 @@ pub mod Calls
 pub mod Demand1
 pub mod Demand3
 pub mod Worked
+pub mod Answers

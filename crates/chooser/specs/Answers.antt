@@ -1,7 +1,8 @@
 -- What the calls answer, by the numbers of the refusals: 0 where nothing is declined, and after a refusal error 0. And what the two values
 -- that the code gives stand for, case by case.
-use Rattle.std.specs.Prelude.{ℕ, Result, Ok, Err}
+use Rattle.std.specs.Prelude.{ℕ, ◌≡◌, Result, Ok, Err}
 use Rattle.refusals.specs.declared.Refusal.{Refusal}
+use Rattle.refusals.specs.declared.Refusal.TheVariants.{PixelPart, BlockPart, Mode}
 use Rattle.refusals.specs.Numbers.{number_of, declined}
 use Rattle.chooser.specs.declared.Chooser.{Chooser}
 
@@ -41,3 +42,12 @@ taken (Err refusal) = record { refusal = number_of refusal; error = 0 }
 -- what `take` gives
 abbrev pub took : Result ℕ Refusal → Chooser → Took
 took answer ch = record { answer = taken answer; chooser = ch }
+
+-- rows worked by hand: a chooser with an answer that is not declined, with one that is, and a take's error
+pub record AnswersWorked : Type 0 where
+  pub start : (ch : Chooser) → started (Ok tt) ch ≡ record { refusal = 0; chooser = ch }
+  pub no_start : (ch : Chooser) → started (Err PixelPart) ch ≡ record { refusal = 1; chooser = ch }
+  pub offer : (ch : Chooser) → offered (Ok tt) ch ≡ record { refusal = 0; chooser = ch }
+  pub no_offer : (ch : Chooser) → offered (Err Mode) ch ≡ record { refusal = 3; chooser = ch }
+  pub take : (ch : Chooser) → took (Ok 7) ch ≡ record { answer = record { refusal = 0; error = 7 }; chooser = ch }
+  pub no_take : (ch : Chooser) → took (Err BlockPart) ch ≡ record { answer = record { refusal = 2; error = 0 }; chooser = ch }

@@ -3,20 +3,19 @@
 
 ghost use Rattle.std.specs.Prelude.{◌≡◌};
 ghost use Rattle.bptc_block.specs.Fields.{word_candidate};
-ghost use Rattle.bptc_block.specs.Refusal.{check_candidate};
 ghost use Rattle.chooser.specs.Rule.{better};
 ghost use Rattle.chooser.specs.Answers.{started, offered, took};
 ghost use Rattle.chooser.specs.StartCall.{empty_over, start_of};
 ghost use Rattle.chooser.specs.OfferCall.{kept, keeping, accepting, offer_of};
 ghost use Rattle.chooser.specs.TakeCall.{take_of, take_into};
 
-use bits::writing::words;
-use block::checks::check_candidate;
+use block::checks::accepted;
 pub use block::{Candidate, PBits, Refusal, Rgb};
-pub use bptc_block::CandidateWords;
+pub use finishing::words::Accepted;
 use finishing::words::finish_words;
 
-// The pixels that candidates are finished over, and the best block so far with its error.
+// The pixels that candidates are finished over, and the best block so far with its error. A value that each call hands back beside its
+// answer: the specification names this form.
 #[derive(Clone, Copy)]
 pub struct Chooser {
     pub pixels: [u8; 48],
@@ -37,15 +36,14 @@ fn empty(pixels: [u8; 48]) -> Chooser
 
 impl Chooser {
     // A chooser over the pixels as they stand now, or over black ones where they are not 48 bytes.
+    #[tactic(auto, using(crate::proofs::Calls::start_answer, crate::proofs::Calls::started_own, crate::proofs::Calls::started_black))]
     pub fn start(pixels: &[u8]) -> (Result<(), Refusal>, Chooser)
         ensures { started result.0 result.1 ≡ start_of pixels.now }
     {
-        let mut own = [0u8; 48];
-        if pixels.len() != 48 {
-            return (Err(Refusal::PixelPart), empty(own));
+        match pixels.as_array() {
+            Some(own) => (Ok(()), empty(*own)),
+            None => (Err(Refusal::PixelPart), empty([0; 48])),
         }
-        own.copy_from_slice(pixels);
-        (Ok(()), empty(own))
     }
 
     // Compressed::better: the chooser with a block and its error where this error is smaller than the one held.
@@ -59,41 +57,36 @@ impl Chooser {
         self
     }
 
-    // Finishes the chooser's pixels with numbers that the checks accept, and keeps the better block.
-    pub fn accept(self, candidate: CandidateWords) -> Chooser
-        requires { check_candidate (word_candidate candidate) 0 ≡ 0 }
-        ensures { result ≡ accepting self (word_candidate candidate) }
+    // Finishes the chooser's pixels with words that the checks accept, and keeps the better block.
+    #[tactic(auto, using(crate::proofs::Calls::gives_finished))]
+    pub fn accept(self, candidate: Accepted) -> Chooser
+        ensures { result ≡ accepting self (word_candidate candidate.words) }
     {
-        let pixels = self.pixels;
         let mut block = [0u8; 16];
-        let error = finish_words(&pixels, candidate, &mut block);
+        let error = finish_words(&self.pixels, candidate, &mut block);
         self.better(block, error)
     }
 
     // Finishes the chooser's pixels with a candidate, and keeps the better block.
-    pub fn offer(mut self, candidate: Candidate) -> (Result<(), Refusal>, Chooser)
+    #[tactic(auto, using(crate::proofs::Calls::offer_accepted, crate::proofs::Calls::offer_declined, refusals::proofs::Numbers::some_number))]
+    pub fn offer(self, candidate: Candidate) -> (Result<(), Refusal>, Chooser)
         ensures { offered result.0 result.1 ≡ offer_of self candidate }
     {
-        let answer = check_candidate(&candidate);
-        if answer.is_ok() {
-            self = self.accept(CandidateWords {
-                mode: candidate.mode,
-                partition: candidate.partition,
-                ends: words(candidate.ends),
-                p: candidate.p,
-            });
+        match accepted(candidate) {
+            Ok(words) => (Ok(()), self.accept(words)),
+            Err(refusal) => (Err(refusal), self),
         }
-        (answer, self)
     }
 
     // The best block so far into the lent part, and its error. Gives the chooser back as it was.
+    #[tactic(auto, using(crate::proofs::Calls::take_answer, crate::proofs::Calls::take_block, crate::proofs::Calls::take_declined, crate::proofs::Calls::take_leaves))]
     pub fn take(self, block: &mut [u8]) -> (Result<u32, Refusal>, Chooser)
         ensures answer { took result.0 result.1 ≡ take_of self block.old }
         ensures part { block.new ≡ take_into self block.old }
     {
-        if block.len() != 16 {
+        let Some(block) = block.as_mut_array::<16>() else {
             return (Err(Refusal::BlockPart), self);
-        }
+        };
         block.copy_from_slice(&self.block);
         (Ok(self.error), self)
     }

@@ -1,5 +1,5 @@
 -- The search's numbers, made from both palettes, give the keys of the palettes' colours; the least of them tell the nearest indices.
-use Prim.Native.Nat.{ℕ, suc, ◌+◌, ◌*◌, ◌/◌, ◌%◌, ◌^◌, ◌≤◌, ◌<◌}
+use Prim.Native.Nat.{ℕ, ◌+◌, ◌*◌, ◌/◌, ◌%◌, ◌^◌, ◌≤◌, ◌<◌}
 use native.Mathlib.Omega.{arith}
 use mathlib.Core.Path.{◌≡◌, sym, ap, ap₂, ◌∙◌}
 use mathlib.Core.List.{List, [], map}
@@ -10,14 +10,14 @@ use Rattle.lists.specs.Bytes.{Bytes}
 use Rattle.lists.specs.Digits.{bit}
 use Rattle.bptc.specs.Mode.{Mode, largest}
 use Rattle.bptc.specs.Colour.{black, colours_of, dist_sq}
-use Rattle.bptc.specs.Shown.{Stored, end_shown}
-use Rattle.bptc.specs.Palette.{palette_at, palettes, coloured, word_at, row_weights, blended_rows}
+use Rattle.bptc.specs.Shown.{Stored}
+use Rattle.bptc.specs.Palette.{palette_at, palettes, coloured, word_at}
 use Rattle.bptc.specs.Nearest.{nearest_by, nearest}
 use Rattle.bptc.specs.Pixels.{pixel_of}
 use Rattle.lists.proofs.Rows.{length-up_from, get_or-each, each_same, listed}
 use Rattle.bptc.proofs.ColourBounds.{pixels-shown}
 use Rattle.bptc.proofs.Modes.{Shades}
-use Rattle.bptc.proofs.Shading.{palette_byte, palettes-made, word-shown}
+use Rattle.bptc.proofs.Shading.{palette_byte, word-shown}
 use Rattle.bptc.specs.declared.Colour.{Colour}
 use Rattle.keys.specs.Keys.{least_of4, sum_key, raised, key_at, pixel_key, Steps}
 use Rattle.lists.specs.Rows.{up_from}

@@ -63,8 +63,3 @@ pub index_digit : (m : Mode) → IsMode m → (x n : ℕ) → n ≤ largest m �
 unfolding largest
 index_digit =
     by_mode (λ (m : Mode). (x n : ℕ) → n ≤ largest m → (x * 8 + n) % 2 ^ m.index_bits ≡ n) (λ x n h. omega arith) (λ x n h. omega arith)
-
--- one of two numbers is no more than both
-pub pick_most : (t : Bool) (a b : ℕ) → pick t b a ≤ a + b
-pick_most true a b = omega arith
-pick_most false a b = omega arith

@@ -3,7 +3,8 @@ ghost use Rattle.std.specs.Prelude.{◌≡◌};
 ghost use Rattle.lists.specs.Tests.{pick};
 ghost use Rattle.closest.specs.Pick.{mixed};
 
-// The indices as one number with the first lowest, the raised distances in sum, and the p-bits.
+// The indices as one number with the first lowest, the raised distances in sum, and the p-bits. A struct and no tuple, since contracts
+// and definitions name its parts.
 #[derive(Clone, Copy)]
 pub struct Picked {
     pub indexes: u64,

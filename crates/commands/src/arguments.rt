@@ -9,7 +9,7 @@ use std::fmt;
 use text::decimal::number;
 
 // The name of a command.
-#[derive(Clone, Copy, Debug, PartialEq, Eq)]
+#[derive(Clone, Copy)]
 pub(crate) enum Name {
     Bake,
     Measure,
@@ -47,7 +47,7 @@ impl Name {
 }
 
 // What a number in a command is.
-#[derive(Clone, Copy, Debug, PartialEq, Eq)]
+#[derive(Clone, Copy)]
 pub(crate) enum Quantity {
     Blocks,
     Width,
@@ -69,9 +69,10 @@ impl Quantity {
     fn parse<'a>(self, word: &'a [u8]) -> Result<usize, Failure<'a>>
         ensures { IfOk result (λ n. (0 < n) × (n ≤ 16384)) }
     {
+        // Rust has no From between usize and u64
         match number(word) {
             Some(n) if 0 < n && n <= self.most() as u64 => Ok(n as usize),
-            _ => Err(Failure::argument(word, ArgumentMistake::NoNumber(self))),
+            _ => Err(Failure::new(word, ArgumentMistake::NoNumber(self))),
         }
     }
 }
@@ -87,7 +88,7 @@ impl fmt::Display for Quantity {
 }
 
 // What is wrong with the words of a line.
-#[derive(Clone, Copy, Debug, PartialEq, Eq)]
+#[derive(Clone, Copy)]
 pub(crate) enum ArgumentMistake {
     NoCommand,
     OtherCommand,
@@ -149,14 +150,14 @@ impl<'a> Command<'a> {
     // The command of a line's words, of which the first is its name.
     pub(crate) fn parse(words: &[&'a [u8]]) -> Result<Command<'a>, Failure<'a>> {
         let [word, arguments @ ..] = words else {
-            return Err(Failure::argument(b"bc7", ArgumentMistake::NoCommand));
+            return Err(Failure::new(b"bc7", ArgumentMistake::NoCommand));
         };
         if words.iter().any(|word| word.is_empty()) {
-            return Err(Failure::argument(b"bc7", ArgumentMistake::Empty));
+            return Err(Failure::new(b"bc7", ArgumentMistake::Empty));
         }
         let word = *word;
         let Some(name) = Name::of(word) else {
-            return Err(Failure::argument(word, ArgumentMistake::OtherCommand));
+            return Err(Failure::new(word, ArgumentMistake::OtherCommand));
         };
         let parsed = match name {
             Name::Bake => parse_bake(arguments),
@@ -166,11 +167,11 @@ impl<'a> Command<'a> {
             Name::Map => parse_map(arguments),
             Name::Help => parse_help(arguments),
         };
-        parsed.ok_or(Failure::argument(word, ArgumentMistake::Other(name)))
+        parsed.ok_or(Failure::new(word, ArgumentMistake::Other(name)))
     }
 }
 
-// `bake PHOTO PLATE [PROPOSALS]`.
+// `bake PHOTO PLATE [PROPOSALS]`. Each command has its own function, as each has its own pattern.
 fn parse_bake<'a>(arguments: &[&'a [u8]]) -> Option<Command<'a>> {
     match arguments {
         [photo, plate] => Some(Command::Bake {

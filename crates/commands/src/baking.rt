@@ -1,11 +1,10 @@
 // `bc7 bake`: a photograph's blocks, chosen among the built-in proposals or among those of a file.
-ghost use Rattle.std.specs.Prelude.{◌≡◌, ◌*◌, ◌<◌, ◌≤◌, length};
+ghost use Rattle.std.specs.Prelude.{◌≡◌, ◌<◌};
 ghost use Rattle.groups.specs.Cutting.{groups_across};
 
 use crate::failure::Failure;
 use crate::proposing::Proposals;
-use crate::refused::Refused;
-use plates::buffers::Buffers;
+use plates::buffers::{Buffers, Parts};
 use plates::output::Output;
 use plates::photo::Photo;
 use plates::progress::{RowWork, each_row};
@@ -14,16 +13,14 @@ use plates::said::say_done;
 use plates::tally::Tally;
 use proposals::baking::bake_row;
 
-// A photograph that is baked with the proposals of a file or the built-in ones: the new plate, the buffers, the figures and the refused
-// proposals so far.
+// A photograph that is baked with the proposals of a file or the built-in ones: the new plate, the buffers and the figures so far.
 #[derive(Drop)]
 struct Baking<'a, 'b> {
     photo: &'b Photo<'a>,
-    proposals: Option<&'b Proposals<'a>>,
+    proposals: &'b mut Option<Proposals<'a>>,
     out: &'b Output<'a>,
     buffers: &'b mut Buffers,
     tally: Tally,
-    refused: Refused,
 }
 
 impl<'a> RowWork for Baking<'a, '_> {
@@ -42,55 +39,32 @@ impl<'a> RowWork for Baking<'a, '_> {
     }
 
     fn work_on(&mut self, rt: &HostRuntime, row: usize) -> Result<(), Failure<'a>> {
-        choose_blocks(
-            rt,
-            self.photo,
-            self.proposals,
-            row,
-            self.buffers,
-            &mut self.refused,
-        )?;
-        let columns = self.photo.size.columns();
-        let buffers = &*self.buffers;
-        self.out.write(&buffers.blocks[..columns * 16])?;
-        self.tally.add_row(&buffers.errors[..columns]);
+        // a variable, since a match on what lies behind two references has no rule
+        let proposals = &mut *self.proposals;
+        let Parts {
+            band,
+            groups,
+            blocks,
+            errors,
+        } = self.buffers.parts(self.photo.size.columns().get());
+        self.photo.read_groups(row, band, groups)?;
+        match proposals {
+            Some(file) => file.choose_row(rt, row, groups, blocks, errors)?,
+            None => bake_row(groups, blocks, errors),
+        }
+        self.out.write(blocks)?;
+        self.tally.add_row(errors);
         Ok(())
     }
-}
-
-// Reads a row of a photograph and chooses its blocks.
-fn choose_blocks<'a>(
-    rt: &HostRuntime,
-    photo: &Photo<'a>,
-    proposals: Option<&Proposals<'a>>,
-    row: usize,
-    buffers: &mut Buffers,
-    refused: &mut Refused,
-) -> Result<(), Failure<'a>>
-    requires { row * 4 < photo.now.size.height }
-{
-    let columns = photo.size.columns();
-    let groups = &mut buffers.groups[..];
-    let groups = &mut groups[..columns * 48];
-    let blocks = &mut buffers.blocks[..];
-    let blocks = &mut blocks[..columns * 16];
-    let errors = &mut buffers.errors[..];
-    let errors = &mut errors[..columns];
-    photo.read_groups(row, &mut buffers.band, groups)?;
-    match proposals {
-        Some(file) => file.choose_row(rt, row, groups, blocks, errors, refused)?,
-        None => bake_row(groups, blocks, errors),
-    }
-    Ok(())
 }
 
 // Bakes a photograph row by row, up to the end of the proposals.
 fn bake_rows<'a>(
     rt: &HostRuntime,
     photo: &Photo<'a>,
-    proposals: Option<&Proposals<'a>>,
+    proposals: &mut Option<Proposals<'a>>,
     out: &Output<'a>,
-) -> Result<(Tally, Refused), Failure<'a>> {
+) -> Result<Tally, Failure<'a>> {
     let mut buffers = Buffers::new();
     let mut work = Baking {
         photo,
@@ -98,13 +72,13 @@ fn bake_rows<'a>(
         out,
         buffers: &mut buffers,
         tally: Tally::new(),
-        refused: Refused::default(),
     };
     each_row(rt, &mut work)?;
+    let tally = work.tally;
     if let Some(file) = proposals {
         file.check_end()?;
     }
-    Ok((work.tally, work.refused))
+    Ok(tally)
 }
 
 // Opens a file of proposals, where there is one.
@@ -126,14 +100,13 @@ pub(crate) fn bake<'a>(
     proposals_path: Option<&'a [u8]>,
 ) -> Result<(), Failure<'a>> {
     let photo = Photo::open(rt, photo_path)?;
-    let opened = open_proposals(rt, proposals_path)?;
-    let proposals = opened.as_ref();
-    let source = proposals.and_then(|file| file.id());
-    let out = Output::create(rt, plate_path, &[photo.id(), source])?;
-    let baked = bake_rows(rt, &photo, proposals, &out);
-    let (tally, refused) = out.settle(rt, baked)?;
-    if proposals.is_some() {
-        let _ = println!(rt; "{refused}");
+    let mut proposals = open_proposals(rt, proposals_path)?;
+    let source = proposals.as_ref().and_then(|file| file.input.id());
+    let out = Output::create(rt, plate_path, &[photo.input.id(), source])?;
+    let baked = bake_rows(rt, &photo, &mut proposals, &out);
+    let tally = out.settle(rt, baked)?;
+    if let Some(file) = &proposals {
+        let _ = println!(rt; "{}", file.refused);
     }
     let report = Report::new(&tally, photo.size.columns());
     let _ = println!(rt; "{report}");

@@ -23,7 +23,21 @@ impl fmt::Display for Mistake<'_> {
     }
 }
 
-// A mistake and the argument or the path of the file that it is about.
+// One for each kind of mistake: no impl comes from a macro.
+impl From<ArgumentMistake> for Mistake<'_> {
+    fn from(mistake: ArgumentMistake) -> Self {
+        Mistake::Argument(mistake)
+    }
+}
+
+impl From<ProposalsMistake> for Mistake<'_> {
+    fn from(mistake: ProposalsMistake) -> Self {
+        Mistake::Proposals(mistake)
+    }
+}
+
+// A mistake and the argument or the path of the file that it is about. It is no generic struct with that of `plates`: a `From` between two
+// of that crate's would be no impl of this one.
 #[derive(Clone, Copy)]
 pub(crate) struct Failure<'a> {
     pub(crate) what: &'a [u8],
@@ -40,19 +54,11 @@ impl<'a> From<plates::failure::Failure<'a>> for Failure<'a> {
 }
 
 impl<'a> Failure<'a> {
-    // The failure of an argument.
-    pub(crate) fn argument(what: &'a [u8], mistake: ArgumentMistake) -> Failure<'a> {
+    // The failure of an argument or a path.
+    pub(crate) fn new<M: Into<Mistake<'a>>>(what: &'a [u8], mistake: M) -> Failure<'a> {
         Failure {
             what,
-            mistake: Mistake::Argument(mistake),
-        }
-    }
-
-    // The failure of a file of proposals.
-    pub(crate) fn proposals(path: &'a [u8], mistake: ProposalsMistake) -> Failure<'a> {
-        Failure {
-            what: path,
-            mistake: Mistake::Proposals(mistake),
+            mistake: mistake.into(),
         }
     }
 

@@ -11,11 +11,12 @@ mod refused;
 
 use crate::arguments::Command;
 use crate::failure::Failure;
+use arrayvec::ArrayVec;
 use plates::{mapping, measuring, plate_reading, showing};
-use std::array;
 use text::words::Words;
 
-// How many words are looked at: more than any command takes.
+// How many words are looked at: more than any command takes, and as many as `bc7` hands over. They stand in fixed memory, as the program
+// takes no heap.
 const MOST: usize = 7;
 
 // Runs a command.
@@ -41,10 +42,9 @@ fn run_command<'a>(rt: &HostRuntime, command: Command<'a>) -> Result<(), Failure
 
 // Runs the command of a line.
 fn run_line<'a>(rt: &HostRuntime, line: &'a [u8]) -> Result<(), Failure<'a>> {
-    let mut left = Words::new(line);
-    let words: [&[u8]; MOST] = array::from_fn(|_| left.next().unwrap_or(&[]));
-    let n = Words::new(line).take(MOST).count();
-    let command = Command::parse(&words[..n])?;
+    let mut words = ArrayVec::<&[u8], MOST>::new();
+    let _ = words.extend(Words::new(line).take(MOST));
+    let command = Command::parse(words.as_slice())?;
     run_command(rt, command)
 }
 

@@ -1,23 +1,21 @@
 // Proposals from a file: for each block a count byte and as many records of 16 bytes.
-ghost use Rattle.std.specs.Prelude.{IfOk, ◌<◌, ◌≤◌, length};
+ghost use Rattle.std.specs.Prelude.{IfOk, ◌≡◌, ◌*◌, ◌/◌, ◌<◌, ◌≤◌, length};
 
 use crate::failure::Failure;
 use crate::refused::Refused;
 use chooser::Chooser;
-use files::{FileId, read_full};
-use plates::inputs::{id_of, open};
+use plates::inputs::Input;
 use plates::report::Place;
 use proposals::offer_records;
 use proposals::records::flags_good;
 use std::fmt;
-use std::fs::File;
 use std::io::Print;
 
 // The bytes of the most records.
 const RECORDS: usize = 4080;
 
 // What is wrong with the proposals of a block.
-#[derive(Clone, Copy, Debug, PartialEq, Eq)]
+#[derive(Clone, Copy)]
 pub(crate) enum BlockMistake {
     NoCount,
     FewRecords,
@@ -40,7 +38,7 @@ impl fmt::Display for BlockMistake {
 }
 
 // What is wrong with a file of proposals.
-#[derive(Clone, Copy, Debug, PartialEq, Eq)]
+#[derive(Clone, Copy)]
 pub(crate) enum ProposalsMistake {
     Block(Place, BlockMistake),
     NoEnd,
@@ -57,82 +55,81 @@ impl fmt::Display for ProposalsMistake {
     }
 }
 
-// A file of proposals that is open for reading.
+// A file of proposals that is open for reading, and which of those read so far are refused.
 #[derive(Drop)]
 pub(crate) struct Proposals<'a> {
-    path: &'a [u8],
-    file: File,
+    pub(crate) input: Input<'a>,
+    pub(crate) refused: Refused,
 }
 
 impl<'a> Proposals<'a> {
     // Opens a file of proposals.
     pub(crate) fn open(rt: &HostRuntime, path: &'a [u8]) -> Result<Proposals<'a>, Failure<'a>> {
-        let file = open(rt, path)?;
-        Ok(Proposals { path, file })
-    }
-
-    // Which file it is, where that is known.
-    pub(crate) fn id(&self) -> Option<FileId> {
-        id_of(&self.file)
+        Ok(Proposals {
+            input: Input::open(rt, path)?,
+            refused: Refused::default(),
+        })
     }
 
     // The failure of a block.
     fn failure(&self, place: Place, mistake: BlockMistake) -> Failure<'a> {
-        Failure::proposals(self.path, ProposalsMistake::Block(place, mistake))
+        Failure::new(self.input.path, ProposalsMistake::Block(place, mistake))
     }
 
-    // Reads a block's records, and answers how many there are.
-    fn read_records(&self, place: Place, records: &mut [u8; RECORDS]) -> Result<usize, Failure<'a>>
-        ensures { IfOk result (λ n. n ≤ 255) }
+    // Reads a block's records into the room for the most, and answers them.
+    fn read_records<'r>(
+        &self,
+        place: Place,
+        room: &'r mut [u8; RECORDS],
+    ) -> Result<&'r [u8], Failure<'a>>
+        ensures whole { IfOk result (λ records. length records.now ≡ 16 * (length records.now / 16)) }
+        ensures few { IfOk result (λ records. length records.now ≤ 4080) }
     {
-        let mut file = &self.file;
         let mut count = [0u8; 1];
-        if read_full(&mut file, &mut count) != 1 {
+        if self.input.read(&mut count) != 1 {
             return Err(self.failure(place, BlockMistake::NoCount));
         }
-        let n = usize::from(count[0]);
-        let records = &mut records[..n * 16];
-        if read_full(&mut file, records) != records.len() {
+        let records = &mut room[..usize::from(count[0]) * 16];
+        if self.input.read(records) != records.len() {
             return Err(self.failure(place, BlockMistake::FewRecords));
         }
         if !flags_good(records) {
             return Err(self.failure(place, BlockMistake::OtherFlag));
         }
-        Ok(n)
+        Ok(records)
     }
 
     // Chooses among a block's proposals, counts the refused ones, puts the best block into the lent part and answers its error.
     fn choose(
-        &self,
+        &mut self,
         rt: &impl Print,
         place: Place,
         pixels: &[u8],
         block: &mut [u8],
-        refused: &mut Refused,
     ) -> Result<u32, Failure<'a>> {
         // Room for the most records that a count byte says: the program takes no heap.
-        let mut all = [0u8; RECORDS];
+        let mut room = [0u8; RECORDS];
         let mut answers = [Ok(()); 255];
-        let n = self.read_records(place, &mut all)?;
-        let answers = &mut answers[..n];
+        let records = self.read_records(place, &mut room)?;
+        let answers = &mut answers[..records.len() / 16];
         let (_, started) = Chooser::start(pixels);
-        let held = offer_records(started, &all[..n * 16], answers);
-        refused.count(rt, place, answers);
+        let held = offer_records(started, records, answers);
+        self.refused.count(rt, place, answers);
         match held.take(block).0 {
-            Ok(error) if error != u32::MAX => Ok(error),
+            Ok(error) if answers.iter().any(|answer| answer.is_ok()) => Ok(error),
+            // a part of 16 bytes is never declined
             _ => Err(self.failure(place, BlockMistake::NoneAccepted)),
         }
     }
 
     // Chooses the blocks of a row.
     pub(crate) fn choose_row(
-        &self,
+        &mut self,
         rt: &impl Print,
         row: usize,
         groups: &[u8],
         blocks: &mut [u8],
         errors: &mut [u32],
-        refused: &mut Refused,
     ) -> Result<(), Failure<'a>>
         requires { (length errors.old ≤ 4096) × (row < 4096) }
     {
@@ -140,17 +137,16 @@ impl<'a> Proposals<'a> {
         let parts = groups.chunks_exact(48).zip(blocks.chunks_exact_mut(16));
         for (column, ((pixels, block), error)) in parts.zip(errors).enumerate() {
             let place = Place::at(row, columns, column);
-            *error = self.choose(rt, place, pixels, block, refused)?;
+            *error = self.choose(rt, place, pixels, block)?;
         }
         Ok(())
     }
 
     // Refuses a file of which not all was read.
     pub(crate) fn check_end(&self) -> Result<(), Failure<'a>> {
-        let mut file = &self.file;
         let mut more = [0u8; 1];
-        if read_full(&mut file, &mut more) != 0 {
-            return Err(Failure::proposals(self.path, ProposalsMistake::NoEnd));
+        if self.input.read(&mut more) != 0 {
+            return Err(Failure::new(self.input.path, ProposalsMistake::NoEnd));
         }
         Ok(())
     }

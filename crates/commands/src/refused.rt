@@ -5,7 +5,7 @@ use std::fmt;
 use std::io::Print;
 
 // How many proposals were refused by each check. No run counts to 2 ^ 64.
-#[derive(Clone, Copy, Debug, Default, PartialEq, Eq)]
+#[derive(Clone, Copy, Default)]
 pub(crate) struct Refused {
     mode: u64,
     partition: u64,
@@ -20,6 +20,7 @@ impl Refused {
             Refusal::Mode => &mut self.mode,
             Refusal::Partition => &mut self.partition,
             Refusal::Channel => &mut self.channel,
+            // that of the p-bits, the last of an offer's checks
             _ => &mut self.p_bits,
         };
         *count = count.wrapping_add(1);

@@ -1,7 +1,7 @@
 // The boxes around the colours of both subsets.
 #![tactic(auto)]
 
-ghost use Rattle.std.specs.Prelude.{ℕ, ◌≡◌, map, ◌*◌, ◌%◌, ◌<◌, eqb, length};
+ghost use Rattle.std.specs.Prelude.{◌≡◌, map, ◌*◌, ◌%◌, ◌<◌, eqb};
 ghost use Rattle.lists.specs.Tests.{pick};
 ghost use Rattle.lists.specs.Rows.{up_from};
 ghost use Rattle.lists.specs.Digits.{bit};
@@ -28,7 +28,8 @@ const NOWHERE: Bounds = Bounds {
 };
 
 impl Bounds {
-    // The box, widened to hold a colour where 0 says that it is inside, and as it was where 255 says that it is not.
+    // The box, widened to hold a colour where 0 says that it is inside, and as it was where 255 says that it is not. A channel is a line, as
+    // it is a field of `Rgb`: a closure over the three would be no shorter.
     fn widened(self, c: Rgb, outside: u8) -> Bounds
         requires { outside % 255 ≡ 0 }
         ensures { result ≡ pick (eqb outside 0) (widened self c) self }
@@ -50,7 +51,9 @@ impl Bounds {
     }
 }
 
-// For each pixel 255 where its bit of a mask is set, and else 0.
+// For each pixel 255 where its bit of a mask is set, and else 0. `array::from_fn` would want a function of its own for the element. A bit is
+// cast, since Rust has no `From` between `u16` and `u8`.
+#[tactic(auto, using(lists::proofs::Rows::written_all), unfolding(lists::specs::Rows::written))]
 fn marks(mask: u16) -> [u8; 16]
     ensures { result ≡ map (λ i. bit mask i * 255) (up_from 0 16) }
 {
@@ -77,9 +80,9 @@ pub struct Planes {
 }
 
 impl Planes {
-    // The planes of 48 bytes.
-    pub fn of(pixels: &[u8]) -> Planes
-        requires { length pixels.now ≡ 48 }
+    // The planes of 48 bytes. A pixel's place is the same in all three, which one loop fills.
+    #[tactic(auto, using(lists::proofs::Rows::written_all), unfolding(lists::specs::Rows::written, crate::specs::Corners::planes_of))]
+    pub fn of(pixels: &[u8; 48]) -> Planes
         ensures { result ≡ planes_of pixels.now }
     {
         let mut r = [0u8; 16];
@@ -107,7 +110,8 @@ impl Planes {
     }
 
     // The boxes around both subsets' colours, by a partition's mask. Both are widened in one loop, with marks in place of tests, so that
-    // the sixteen pixels are the lanes of one vector.
+    // the sixteen pixels are the lanes of one vector. A colour lies in three planes, and is taken by its place.
+    #[tactic(auto, using(crate::proofs::Boxing::box_none))]
     pub fn boxes(&self, mask: u16) -> Boxes
         ensures { result ≡ boxes_of self.now mask }
     {

@@ -79,12 +79,6 @@ row_is_first (x ∷ rs) =
       declined = λ l. eqb-false x 0 t;
     })
 
-module _ (refusal : ℕ → ℕ) (n : ℕ) where
-  -- the answer for one block more
-  pub row_next : further (first_of (map refusal (up_from 0 n))) (refusal n) ≡ first_of (map refusal (up_from 0 (n + 1)))
-  unfolding first_of
-  row_next = rw add-one (sym (ap (first_from 0) (each-suc refusal n) ∙ first_next 0 (map refusal (up_from 0 n)) (refusal n)))
-
 -- one block more: a refusal stays, and where there is none the block decides
 pub stays : (n r : ℕ) (d : Declined) → row_in (n + 1) (Err d) ≡ further (row_in n (Err d)) r
 unfolding further
@@ -123,26 +117,35 @@ row_inside refusals n (Err d) h e =
       | inr less ↦ omega (arith, less)
     ]
 
--- the answer for the first n blocks
-module _ (refusal : ℕ → ℕ) (n : ℕ) where
-  -- is for as many refusals
-  each_length : length (map refusal (up_from 0 n)) ≡ n
-  each_length = simp (length-map, length-up_from)
+-- the answer for no blocks
+pub row_none : row_in 0 (Ok tt) ≡ first_of []
+unfolding first_of first_from
+row_none = refl
 
-  -- and declines one of them
-  pub declined_inside : (row : Result (Unit {0}) Declined) → row_in n row ≡ first_of (map refusal (up_from 0 n)) → IfErr row (λ d. d.at < n)
-  declined_inside row e = row_inside (map refusal (up_from 0 n)) n row each_length e
+module _ (refusal : ℕ → ℕ) where
+  -- the answer for one block more
+  pub row_next : (n r : ℕ) (row next : Result (Unit {0}) Declined) → row_in n row ≡ first_of (map refusal (up_from 0 n)) → r ≡ refusal n →
+      row_in (n + 1) next ≡ further (row_in n row) r → row_in (n + 1) next ≡ first_of (map refusal (up_from 0 (n + 1)))
+  unfolding first_of
+  row_next n r row next before own e =
+      e ∙ rw (add-one, before, own) (sym (ap (first_from 0) (each-suc refusal n) ∙ first_next 0 (map refusal (up_from 0 n)) (refusal n)))
+
+  -- for all n blocks it declines one of them
+  pub declined_inside : (k n : ℕ) (row : Result (Unit {0}) Declined) → k ≡ n → row_in k row ≡ first_of (map refusal (up_from 0 k)) →
+      IfErr row (λ d. d.at < n)
+  declined_inside k n row same e =
+      rw (← same) (row_inside (map refusal (up_from 0 k)) k row (simp (length-map, length-up_from)) e)
 
 -- the number and the error of a measured block
-pub measured-refusal : (r : Result ℕ Refusal) → refusal_in r ≡ (measured r).refusal
-measured-refusal (Ok error) = refl
-measured-refusal (Err refusal) = refl
+pub measured_refusal : (r : Result ℕ Refusal) → refusal_in r ≡ (measured r).refusal
+measured_refusal (Ok error) = refl
+measured_refusal (Err refusal) = refl
 
-pub measured-error : (r : Result ℕ Refusal) → result_unwrap_or r 0 ≡ (measured r).error
-measured-error (Ok error) = refl
-measured-error (Err refusal) = refl
+pub measured_error : (r : Result ℕ Refusal) → result_unwrap_or r 0 ≡ (measured r).error
+measured_error (Ok error) = refl
+measured_error (Err refusal) = refl
 
 -- the number of a block that is read
-pub read-refusal : (r : Result Reading Refusal) → refusal_in r ≡ (block_read r).refusal
-read-refusal (Ok reading) = refl
-read-refusal (Err refusal) = refl
+pub read_refusal : (r : Result Reading Refusal) → refusal_in r ≡ (block_read r).refusal
+read_refusal (Ok reading) = refl
+read_refusal (Err refusal) = refl

@@ -6,3 +6,4 @@ pub mod Brightness
 pub mod Carrying
 pub mod Keys
 pub mod Entries
+pub mod Worked

@@ -31,11 +31,11 @@ module _ (blocks groups : List ℕ) (n : ℕ) (own : length groups ≡ 48 * n) w
     before i l = wide i (omega arith)
 
     -- one block more
-    pub shown-next :
+    pub shown_next :
         put_mid (k * 48) 48 (shown_to blocks groups k) (read_into (part_at 16 k blocks) (part_at 48 k (shown_to blocks groups k)))
         ≡ shown_to blocks groups (k + 1)
     unfolding shown_of shown_at
-    shown-next =
+    shown_next =
         rw (joined_rest 48 (shown_at blocks groups) groups k before) (joined-next 48 (shown_at blocks groups) groups k before)
 
     -- its refusal
@@ -52,9 +52,9 @@ module _ (blocks groups : List ℕ) (n : ℕ) (own : length groups ≡ 48 * n) w
         ∙ measured-read (part_at 16 k blocks) (part_at 48 k groups)
 
   -- after the last
-  pub shown-all : shown_to blocks groups n ≡ shown_of blocks groups n
+  pub shown_all : shown_to blocks groups n ≡ shown_of blocks groups n
   unfolding shown_of
-  shown-all = joined-all 48 (shown_at blocks groups) groups n (omega arith)
+  shown_all = joined-all 48 (shown_at blocks groups) groups n (omega arith)
 
 -- the same 0 for each block
 zeros : (n m : ℕ) → map {B = ℕ} (λ (k : ℕ). 0) (up_from m n) ≡ replicate n 0

@@ -4,3 +4,4 @@ pub mod Mean
 pub mod Shade
 pub mod Worst
 pub mod Entries
+pub mod Worked

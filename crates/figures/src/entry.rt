@@ -4,7 +4,7 @@ ghost use Rattle.std.specs.Prelude.{◌≡◌, ◌+◌, ◌*◌, ◌/◌, ◌%�
 use std::cmp::Reverse;
 
 // A block's error, its number, its mode and its partition. They are compared in this order, so that of two blocks the greater is the one
-// with the greater error, and at equal errors the earlier one.
+// with the greater error, and at equal errors the earlier one. The mode is a number, as in every call on blocks and in a table's lines.
 #[derive(Clone, Copy, PartialEq, Eq, PartialOrd, Ord)]
 pub struct Entry {
     pub error: u32,

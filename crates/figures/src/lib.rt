@@ -10,7 +10,8 @@ pub mod row;
 pub mod shade;
 pub mod worst;
 
-// How many blocks, the sum of their errors, the greatest error, and the number of the first block that has it.
+// How many blocks, the sum of their errors, the greatest error, and the number of the first block that has it. The last two are 0 where there
+// are no blocks, as in `none_yet`, since the theorems speak of numbers.
 #[derive(Clone, Copy)]
 pub struct Figures {
     pub blocks: u64,
@@ -20,7 +21,7 @@ pub struct Figures {
 }
 
 impl Figures {
-    // The figures of no blocks.
+    // The figures of no blocks. No `Default`: the name says which figures these are.
     pub fn none() -> Figures
         ensures { result ≡ none_yet }
     {
@@ -50,7 +51,9 @@ impl Figures {
         }
     }
 
-    // The figures with a row of blocks more, where the rows before it are so many and none has more than 4096 blocks.
+    // The figures with a row of blocks more, where the rows before it are so many and none has more than 4096 blocks. That limit stands in
+    // the contract of each function over a row, and in no type: their lists are parts of the caller's buffers, lent anew for each row.
+    #[tactic(auto, unfolding(crate::specs::Figures::counted_all))]
     pub fn counted_row(self, errors: &[u32], row: usize) -> Figures
         requires { (row < 4096) × (length errors.now ≤ 4096) × (self.total ≤ row * 17592186044416) × (self.blocks ≤ row * 4096) }
         ensures all { result ≡ counted_all self errors.now }

@@ -7,6 +7,7 @@ use crate::Figures;
 impl Figures {
     // The mean squared error of a channel value in thousandths, rounded to the nearest. The remainder is scaled apart, so that no
     // product wraps.
+    #[tactic(auto, using(crate::proofs::Rounding::mean_split), unfolding(crate::specs::Mean::mean_of))]
     pub fn mean(self) -> u64
         requires { (self.total ≤ 72057594037927936) × (self.blocks ≤ 16777216) }
         ensures { result ≡ mean_of self.total self.blocks }

@@ -13,6 +13,7 @@ pub struct Declined {
 }
 
 // Measures block k against its group of pixels.
+#[tactic(auto, unfolding(crate::specs::Row::measured_at))]
 fn measure_at(groups: &[u8], blocks: &[u8], k: usize) -> Result<u32, Refusal>
     requires { (k < 4096) × (48 * k + 48 ≤ length groups.now) × (16 * k + 16 ≤ length blocks.now) }
     ensures { measured result ≡ measured_at groups.now blocks.now k }
@@ -23,6 +24,7 @@ fn measure_at(groups: &[u8], blocks: &[u8], k: usize) -> Result<u32, Refusal>
 }
 
 // The answer for a row with one block more, which stands behind those before it: the refusal of the first that is declined.
+#[tactic(auto, using(crate::proofs::Declined::passed_on, crate::proofs::Declined::declined_on))]
 fn further<T: Drop>(
     row: Result<(), Declined>,
     block: Result<T, Refusal>,
@@ -36,7 +38,10 @@ fn further<T: Drop>(
     row
 }
 
-// Measures a row of blocks: the error of each, 0 where it is declined.
+// Measures a row of blocks: the error of each, and 0, by `errors_of`, where it is declined. The blocks and groups are taken by their places,
+// and not by a `zip`: a proof knows nothing of what is written through `iter_mut` under one. It stands beside `read_row`, as it writes a
+// number for each block and that one pixels; what both answer is `further`.
+#[tactic(auto, using(lists::proofs::Rows::written_all, crate::proofs::Declined::row_none), unfolding(crate::specs::Row::errors_of, lists::specs::Rows::written))]
 pub fn measure_row(groups: &[u8], blocks: &[u8], errors: &mut [u32]) -> Result<(), Declined>
     requires groups { length groups.now ≡ 48 * length errors.old }
     requires blocks { length blocks.now ≡ 16 * length errors.old }
@@ -54,8 +59,9 @@ pub fn measure_row(groups: &[u8], blocks: &[u8], errors: &mut [u32]) -> Result<(
     row
 }
 
-// Reads a row of blocks, each into its group of pixels; a group whose block is declined stays as it was. The groups are lent by their
-// places: a proof knows nothing of what is written through an iterator over parts.
+// Reads a row of blocks, each into its group of pixels; a group whose block is declined stays as it was. The groups are taken by their
+// places: a proof knows nothing of what is written through `chunks_exact_mut`.
+#[tactic(auto, using(crate::proofs::Showing::shown_all, crate::proofs::Declined::row_none), unfolding(crate::specs::Row::shown_of, lists::specs::Parts::joined))]
 pub fn read_row(blocks: &[u8], groups: &mut [u8]) -> Result<(), Declined>
     requires groups { length groups.old ≡ 48 * (length blocks.now / 16) }
     requires few { length blocks.now / 16 ≤ 4096 }

@@ -1,5 +1,5 @@
 // What a block's pixels are raised by, and the error without it.
-ghost use Rattle.std.specs.Prelude.{◌≡◌, ◌+◌, ◌≤◌, length};
+ghost use Rattle.std.specs.Prelude.{◌≡◌, ◌+◌, ◌≤◌};
 ghost use Rattle.bptc.specs.Colour.{colours_of};
 ghost use Rattle.closest.specs.Pick.{raised_all};
 
@@ -7,8 +7,7 @@ ghost use Rattle.closest.specs.Pick.{raised_all};
 pub(crate) const GREATEST: u32 = 16 * 3 * 255 * 255;
 
 // The squares of what the bytes lack to 255, in sum: the greatest distance less what the pixels are raised by.
-pub(crate) fn lacking(px: &[u8]) -> u32
-    requires { length px.now ≡ 48 }
+pub(crate) fn lacking(px: &[u8; 48]) -> u32
     ensures { (result + raised_all (colours_of px.now) ≡ 3121200) × (result ≤ 3121200) }
 {
     let mut sum = 0;

@@ -1,22 +1,22 @@
 // The nearest indices of a block's pixels, their error and the p-bits, in either mode and at p-bits that are fixed or free.
 #![tactic(auto)]
 
-ghost use Rattle.std.specs.Prelude.{◌≡◌, ◌<◌, length};
+ghost use Rattle.std.specs.Prelude.{◌≡◌};
 ghost use Rattle.bptc.specs.Colour.{colours_of};
-ghost use Rattle.bptc.specs.Shown.{Stored};
 ghost use Rattle.finishing.specs.Indices.{nearest_for};
 
 use crate::error::{GREATEST, lacking};
 use crate::pick::picked;
-use bptc::Rgb;
 use bptc_block::PBits;
+pub use closest::query::Query;
 pub use pick::FreeBits;
 
 mod error;
 mod pick;
 pub mod words;
 
-// The nearest index of every pixel, as one number with the first lowest, the error of both subsets, and the p-bits.
+// The nearest index of every pixel, as one number with the first lowest, the error of both subsets, and the p-bits. Not `Picked`, whose
+// sum is of raised distances.
 #[derive(Clone, Copy)]
 pub struct Indices {
     pub indexes: u64,
@@ -24,18 +24,14 @@ pub struct Indices {
     pub p: u8,
 }
 
-// The indices, the error and the p-bits of a candidate of a mode.
-// Requires endpoints within the mode's width, sixteen pixels and a partition of the table.
-pub fn nearest<M: FreeBits>(ends: [Rgb; 4], p: PBits, px: &[u8], partition: usize) -> Indices
-    requires stored { Stored M.mode ends }
-    requires sixteen { length px.now ≡ 48 }
-    requires inside { partition < 64 }
-    ensures { result ≡ nearest_for M.mode partition ends p (colours_of px.now) }
+// The indices, the error and the p-bits of a query, at p-bits that are fixed or free.
+pub fn nearest<M: FreeBits>(query: &Query<M>, p: PBits) -> Indices
+    ensures { result ≡ nearest_for M.mode query.now.partition.number query.now.ends.stored p (colours_of query.now.pixels.now) }
 {
-    let got = picked::<M>(ends, p, px, partition);
+    let got = picked(query, p);
     Indices {
         indexes: got.indexes,
-        error: got.sum + lacking(px) - GREATEST,
+        error: got.sum + lacking(query.pixels) - GREATEST,
         p: got.p,
     }
 }

@@ -1,27 +1,42 @@
 // Finishing on words: the nearest indices, packed into a lent block.
-ghost use Rattle.std.specs.Prelude.{◌≡◌, length};
+ghost use Rattle.std.specs.Prelude.{◌≡◌};
 ghost use Rattle.bptc.specs.Mode.{mode_numbered};
 ghost use Rattle.bptc_block.specs.Fields.{word_candidate};
 ghost use Rattle.bptc_block.specs.Refusal.{check_candidate};
 ghost use Rattle.bptc_block.specs.Finish.{finish};
 
-use crate::{FreeBits, nearest};
+use crate::{FreeBits, Query, nearest};
 use bits::writing::{endpoints, write_words};
 use bptc_block::{CandidateWords, Words};
+use palette::palettes::Ends;
 use palette::{Mode1, Mode3};
+use partitions::Partition;
+
+// A candidate that the checks accept.
+#[derive(Clone, Copy)]
+pub struct Accepted {
+    pub words: CandidateWords,
+    ghost accepted: { check_candidate (word_candidate words) 0 ≡ 0 },
+}
 
 // The block of a candidate of a mode into a lent part. Gives the error.
-fn finish<M: FreeBits>(pixels: &[u8], candidate: CandidateWords, block: &mut [u8]) -> u32
-    requires own { mode_numbered candidate.mode ≡ M.mode }
-    requires sixteen { length pixels.now ≡ 48 }
-    requires whole { length block.old ≡ 16 }
-    requires accepted { check_candidate (word_candidate candidate) 0 ≡ 0 }
-    ensures error { result ≡ (finish pixels.now (word_candidate candidate)).error }
-    ensures part { block.new ≡ (finish pixels.now (word_candidate candidate)).block }
+fn finish<M: FreeBits>(pixels: &[u8; 48], candidate: Accepted, block: &mut [u8; 16]) -> u32
+    requires own { mode_numbered candidate.words.mode ≡ M.mode }
+    ensures error { result ≡ (finish pixels.now (word_candidate candidate.words)).error }
+    ensures part { block.new ≡ (finish pixels.now (word_candidate candidate.words)).block }
 {
-    let ends = candidate.ends;
-    let partition = candidate.partition;
-    let found = nearest::<M>(endpoints(ends), candidate.p, pixels, usize::from(partition));
+    let CandidateWords {
+        partition,
+        ends,
+        p,
+        ..
+    } = candidate.words;
+    let query = Query {
+        ends: Ends::<M>::new(endpoints(ends)),
+        pixels,
+        partition: Partition { number: partition },
+    };
+    let found = nearest(&query, p);
     let words = Words {
         partition,
         ends,
@@ -33,15 +48,12 @@ fn finish<M: FreeBits>(pixels: &[u8], candidate: CandidateWords, block: &mut [u8
 }
 
 // The block of a candidate into a lent part. Gives the error.
-// Requires sixteen pixels, a block part of 16 bytes, and words that the checks accept.
-pub fn finish_words(pixels: &[u8], candidate: CandidateWords, block: &mut [u8]) -> u32
-    requires sixteen { length pixels.now ≡ 48 }
-    requires whole { length block.old ≡ 16 }
-    requires accepted { check_candidate (word_candidate candidate) 0 ≡ 0 }
-    ensures error { result ≡ (finish pixels.now (word_candidate candidate)).error }
-    ensures part { block.new ≡ (finish pixels.now (word_candidate candidate)).block }
+pub fn finish_words(pixels: &[u8; 48], candidate: Accepted, block: &mut [u8; 16]) -> u32
+    ensures error { result ≡ (finish pixels.now (word_candidate candidate.words)).error }
+    ensures part { block.new ≡ (finish pixels.now (word_candidate candidate.words)).block }
 {
-    match candidate.mode {
+    // by number, the form that the specification names
+    match candidate.words.mode {
         1 => finish::<Mode1>(pixels, candidate, block),
         _ => finish::<Mode3>(pixels, candidate, block),
     }

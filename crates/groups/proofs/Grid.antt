@@ -22,8 +22,8 @@ pub row_before : (a b p : ℕ) → 0 < a → p < a * b → p / a < b
 row_before a b p h l = (div-lt_iff_lt-mul h).1 (rw mul_comm at l)
 
 -- the pixel of byte j stands inside the picture
-pub pixel-inside : (w h j : ℕ) → 0 < w → j < w * h * 3 → (j / 3 % w < w) × (j / 3 / w < h)
-pixel-inside w h j hw l = (mod-lt (j / 3) hw, row_before w h (j / 3) hw (omega arith))
+pub pixel_inside : (w h j : ℕ) → 0 < w → j < w * h * 3 → (j / 3 % w < w) × (j / 3 / w < h)
+pixel_inside w h j hw l = (mod-lt (j / 3) hw, row_before w h (j / 3) hw (omega arith))
 
 -- a pixel inside the picture is not repeated from its edge
 pub channel-inside : (w h x y k : ℕ) → x < w → y < h → channel_at w h x y k ≡ (y * w + x) * 3 + k

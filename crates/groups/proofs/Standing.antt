@@ -4,7 +4,7 @@ use native.Mathlib.Nat.{add-mul, mul_comm, add-div_left, add-mod_left, mul-add-d
 use native.Mathlib.Omega.{arith}
 use mathlib.Core.Path.{◌≡◌}
 use Rattle.groups.specs.Cutting.{groups_across, inside, column_of, row_of, source_of, place_of}
-use Rattle.groups.proofs.Grid.{its_row, its_column, before-row, row_before, pixel-inside, channel-inside, grouped_column, grouped_row, grouped_channel, grouped_below, grouped_again, band_row, later_group, later-row, later_column, later-channel, inside-later, channel-later}
+use Rattle.groups.proofs.Grid.{its_row, its_column, before-row, row_before, pixel_inside, channel-inside, grouped_column, grouped_row, grouped_channel, grouped_below, grouped_again, band_row, later_group, later-row, later_column, later-channel, inside-later, channel-later}
 
 -- byte j of a picture
 module _ (w h j : ℕ) (hw : 0 < w) (l : j < w * h * 3) where
@@ -12,7 +12,7 @@ module _ (w h j : ℕ) (hw : 0 < w) (l : j < w * h * 3) where
   pub place-below : place_of w j < 48 * (groups_across w * groups_across h)
   unfolding place_of
   place-below =
-      let b = pixel-inside w h j hw l in
+      let b = pixel_inside w h j hw l in
       grouped_below w (j / 3 % w) (j / 3 / w) (j % 3) (omega (arith, b.0)) (omega arith) h (omega (arith, b.1))
 
   -- and comes from where it was
@@ -21,7 +21,7 @@ module _ (w h j : ℕ) (hw : 0 < w) (l : j < w * h * 3) where
   source-place =
       let x = j / 3 % w in
       let y = j / 3 / w in
-      let b = pixel-inside w h j hw l in
+      let b = pixel_inside w h j hw l in
       let hx : x < 4 * groups_across w = omega (arith, b.0) in
       let hk : j % 3 < 3 = omega arith in
       rw (

@@ -5,7 +5,8 @@
 ghost use Rattle.std.specs.Prelude.{ℕ, ◌≡◌, ◌+◌, ◌*◌, ◌<◌, ◌≤◌, length};
 ghost use Rattle.groups.specs.Cutting.{groups_across, rows_in, source_of, place_of, gather, groups_of, picture_of};
 
-// The greatest side of a picture.
+// The greatest side of a picture. It stands in the contracts of what takes a side, and in no type here: a size of both sides is the callers',
+// and `across` and `picture_bytes` also take one side of it, or a band's rows.
 pub const SIDE: usize = 16384;
 
 // How many groups a side of a picture has.
@@ -32,7 +33,8 @@ pub fn picture_bytes(width: usize, height: usize) -> usize
     width * height * 3
 }
 
-// The number of the group in a column of a row, counted row by row.
+// The number of the group in a column of a row, counted row by row. Its limits stand in its contract, and in no type: callers count a row
+// and a column, or hand in how many rows there are.
 pub fn number_at(row: usize, columns: usize, column: usize) -> usize
     requires { (row ≤ 4096) × (columns ≤ 4096) × (column ≤ 4096) }
     ensures { (result ≡ row * columns + column) × (result ≤ row * 4096 + column) }
@@ -41,6 +43,7 @@ pub fn number_at(row: usize, columns: usize, column: usize) -> usize
 }
 
 // Writes to each place of a list what stands at the place of another that a function gives.
+#[tactic(auto, using(lists::proofs::Rows::written_all), unfolding(lists::specs::Rows::written))]
 fn gather<F: Fn(usize) -> usize>(place: F, from: &[u8], to: &mut [u8])
     ghost places: { ℕ → ℕ }
     requires callable { (i : ℕ) → i < length to.old → F.pre place i }
@@ -62,7 +65,9 @@ pub struct Band {
 }
 
 impl Band {
-    // Where byte g of the band's groups stands in the band: beyond its edges the last column and the last row are repeated.
+    // Where byte g of the band's groups stands in the band: beyond its edges the last column and the last row are repeated. `place` goes the
+    // other way, by another formula.
+    #[tactic(auto, using(crate::proofs::Grid::in_band, crate::proofs::Grid::band_column, crate::proofs::Grid::band_row), unfolding(crate::specs::Cutting::source_of))]
     fn source(self, g: usize) -> usize
         requires { g < 48 * groups_across self.width }
         ensures { (result ≡ source_of self.width self.rows g) × (result < self.width * self.rows * 3) }
@@ -74,7 +79,8 @@ impl Band {
         (y * self.width + x) * 3 + g % 3
     }
 
-    // The groups of the band.
+    // The groups of the band. Requires whole parts: a slice's type has no length.
+    #[tactic(auto, unfolding(crate::specs::Cutting::groups_of))]
     pub fn cut(self, pixels: &[u8], groups: &mut [u8])
         requires whole { length pixels.now ≡ self.width * self.rows * 3 }
         requires room { length groups.old ≡ 48 * groups_across self.width }
@@ -83,7 +89,8 @@ impl Band {
         gather(|g| self.source(g), pixels, groups);
     }
 
-    // Where byte j of the band stands among its groups' bytes.
+    // Where byte j of the band stands among its groups' bytes, each of which has its place by `source`.
+    #[tactic(auto, using(crate::proofs::Grid::pixel_inside, crate::proofs::Grid::band_grouped), unfolding(crate::specs::Cutting::place_of))]
     fn place(self, j: usize) -> usize
         requires { j < self.width * self.rows * 3 }
         ensures { (result ≡ place_of self.width j) × (result < 48 * groups_across self.width) }
@@ -94,6 +101,7 @@ impl Band {
     }
 
     // The pixels of the band that groups stand for.
+    #[tactic(auto, unfolding(crate::specs::Cutting::picture_of))]
     pub fn put_back(self, groups: &[u8], pixels: &mut [u8])
         requires whole { length pixels.old ≡ self.width * self.rows * 3 }
         requires room { length groups.now ≡ 48 * groups_across self.width }

@@ -7,7 +7,8 @@ ghost use Rattle.key_numbers.specs.Numbers.{column_words, joined_rows, flat_colu
 use crate::numbers;
 use bptc::Colour;
 
-// The first four colours of four rows, at index * 4 + row.
+// The first four colours of four rows, at index * 4 + row. The loop has an index, since it reads four arrays.
+#[tactic(auto, using(lists::proofs::Rows::written_all), unfolding(lists::specs::Rows::written))]
 fn interleaved(a: [Colour; 8], b: [Colour; 8], c: [Colour; 8], d: [Colour; 8]) -> [u32; 16]
     ensures { result ≡ map (column_words a b c d) (up_from 0 16) }
 {
@@ -21,7 +22,8 @@ fn interleaved(a: [Colour; 8], b: [Colour; 8], c: [Colour; 8], d: [Colour; 8]) -
     out
 }
 
-// Sixteen numbers, and sixteen after them.
+// Sixteen numbers, and sixteen after them. The loop has an index, since it writes two parts of one array.
+#[tactic(auto, using(lists::proofs::Rows::written_all), unfolding(lists::specs::Rows::written, crate::specs::Numbers::joined_rows))]
 fn joined(first: &[u32; 16], second: &[u32; 16]) -> [u32; 32]
     ensures { result ≡ map (joined_rows first.now second.now) (up_from 0 32) }
 {

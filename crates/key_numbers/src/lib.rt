@@ -11,6 +11,7 @@ pub mod columns;
 pub mod rows;
 
 // What a channel of a colour adds to a key for each step of the pixel's. Requires a byte.
+#[tactic(auto, unfolding(keys::specs::Keys::step_of))]
 fn step(x: u32) -> u32
     requires { x < 256 }
     ensures { result ≡ step_of 8 x }
@@ -19,6 +20,7 @@ fn step(x: u32) -> u32
 }
 
 // What a colour, given as one number, adds to a key by itself. Requires an index below eight.
+#[tactic(auto, using(keys::proofs::KeySums::squares), unfolding(keys::specs::Keys::own_of, bptc::specs::Colour::norm, bptc::specs::Colour::dot, bptc::specs::Pixels::pixel_of))]
 fn alone(c: u32, index: u32) -> u32
     requires { index < 8 }
     ensures { result ≡ own_of 8 (pixel_of c) index }
@@ -30,7 +32,8 @@ fn alone(c: u32, index: u32) -> u32
 }
 
 // The numbers of N colours, which stand in so many columns and in rows of `width`: the index of each is its place in its column.
-// Requires room for four numbers of each, and at most eight indices.
+// Requires that `ALL` is four times N, and at least one column and rows of one to eight: no value could hold the first, which is of the
+// type's parameters, and each caller writes the others out. The loop has an index, since it writes four parts of one array.
 #[inline(always)]
 fn numbers<const N: usize, const ALL: usize>(
     words: &[u32; N],
@@ -48,6 +51,7 @@ fn numbers<const N: usize, const ALL: usize>(
         numbers[k] = step(c % 256);
         numbers[k + N] = step(c / 256 % 256);
         numbers[k + N * 2] = step(c / 65536 % 256);
+        // Rust has no `From` between the two
         numbers[k + N * 3] = alone(c, (k / columns % width) as u32);
     }
     numbers

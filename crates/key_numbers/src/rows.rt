@@ -7,7 +7,8 @@ use crate::numbers;
 use bptc::Colour;
 
 // Both rows, one after the other. `joined` of columns copies numbers and this reads them out of colours: one function for both would
-// take what is read as an argument.
+// take what is read as an argument. The loop has an index, since it writes two parts of one array.
+#[tactic(auto, using(lists::proofs::Rows::written_all), unfolding(lists::specs::Rows::written, crate::specs::Numbers::flat_rows))]
 fn flat(p: [[Colour; 8]; 2]) -> [u32; 16]
     ensures { result ≡ flat_rows p }
 {
@@ -21,7 +22,8 @@ fn flat(p: [[Colour; 8]; 2]) -> [u32; 16]
     out
 }
 
-// The numbers of both palettes.
+// The numbers of both palettes. `numbers_of4` of columns is a function of its own: it takes four pairs of rows, of which it puts a pair in
+// each column, and one function over both would hand in how the rows are laid out.
 pub fn numbers_of(p: [[Colour; 8]; 2]) -> [u32; 64]
     ensures { result ≡ numbers_of 8 16 (λ k. pixel_of (get_or (flat_rows p) k 0)) (λ k. k % 8) }
 {

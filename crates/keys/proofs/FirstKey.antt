@@ -3,7 +3,7 @@ use Prim.Native.Nat.{ℕ, zero, suc, ◌+◌, ◌-◌, ◌*◌, ◌≤◌, ◌<�
 use native.Mathlib.Nat.{mul-le-mul_right, suc-mul, le_refl, le_trans, min-le_left, min-le_right, le-min}
 use native.Mathlib.Numerals.{one-add}
 use native.Mathlib.Omega.{arith}
-use mathlib.Core.Path.{◌≡◌, refl, ap, ap₂, ◌∙◌}
+use mathlib.Core.Path.{◌≡◌, refl, ap, ◌∙◌}
 use mathlib.Core.Bool.{Bool, true, false}
 use mathlib.Core.List.{[], ◌∷◌}
 use lib.Dec.{leb, ltb, eqb}
@@ -31,11 +31,6 @@ least4_most m f h = omega (arith, h 0 (omega arith), h 1 (omega arith), h 2 (ome
 pub record Least (f : ℕ → ℕ) (last t : ℕ) : Type 0 where
   pub below : (j : ℕ) → j ≤ last → t ≤ f j
   pub most : (m : ℕ) → ((j : ℕ) → j ≤ last → m ≤ f j) → m ≤ t
-
--- of the same numbers
-pub least4-same : (f g : ℕ → ℕ) → ((c : ℕ) → c < 4 → f c ≡ g c) → least_of4 f ≡ least_of4 g
-least4-same f g h =
-    ap₂ min (ap₂ min (h 0 (omega arith)) (h 1 (omega arith))) (ap₂ min (h 2 (omega arith)) (h 3 (omega arith)))
 
 -- the least of four
 pub least_of_4 : (f : ℕ → ℕ) → Least f 3 (least_of4 f)

@@ -1,13 +1,10 @@
 -- Laws of a choice by a test, and of tests joined.
-use Prim.Native.Nat.{ℕ, zero, suc, ◌≤◌, ◌<◌}
+use Prim.Native.Nat.{ℕ, ◌≤◌}
 use native.Mathlib.Nat.{le_refl}
-use native.Mathlib.Omega.{arith}
-use mathlib.Core.Path.{◌≡◌, refl, ap, ◌∙◌}
+use mathlib.Core.Path.{◌≡◌, refl}
 use mathlib.Core.Bool.{Bool, true, false}
-use mathlib.Core.List.{List, [], ◌∷◌}
 use lib.Dec.{T}
-use lib.ListN.{length, take, get_or}
-use Rattle.lists.specs.Tests.{pick, and, all}
+use Rattle.lists.specs.Tests.{pick, and}
 
 -- what holds of both, each where it is picked, holds of what is picked
 pub pick_elim {ℓ κ} : {A : Type ℓ} (P : A → Type κ) (t : Bool) {a b : A} → (t ≡ true → P a) → (t ≡ false → P b) → P (pick t a b)
@@ -39,25 +36,7 @@ pub and-true : (a b : Bool) → and a b ≡ true → (a ≡ true) × (b ≡ true
 and-true true b e = (refl, e)
 and-true false b e = (e, cc)
 
--- where the first passes, the second decides
-pub and-passes : (a b : Bool) → a ≡ true → and a b ≡ b
-and-passes a b e = rw e
-
--- where the first fails, so do both
-pub and_stops : (a b : Bool) → a ≡ false → and a b ≡ a
-and_stops a b e = rw e
-
 -- a last test
 pub and_last : (a : Bool) → and a true ≡ a
 and_last true = refl
 and_last false = refl
-
-and_assoc : (a b c : Bool) → and a (and b c) ≡ and (and a b) c
-and_assoc true b c = refl
-and_assoc false b c = refl
-
--- the test of the first numbers of a list, and of one more
-pub all-next : (f : ℕ → Bool) (xs : List ℕ) (i : ℕ) → i < length xs → all f (take (suc i) xs) ≡ and (all f (take i xs)) (f (get_or xs i 0))
-all-next f [] i h = absurd (omega arith)
-all-next f (x ∷ xs) zero h = and_last (f x)
-all-next f (x ∷ xs) (suc i) h = ap (and (f x)) (all-next f xs i (omega arith)) ∙ and_assoc (f x) _ _

@@ -6,43 +6,49 @@ ghost use Rattle.bptc.specs.Palette.{blend, colour};
 
 use bptc::{Colour, Rgb};
 
-// The byte that a channel stored in `bits` bits shows, with the p-bit below it.
-// Requires a width that a mode can have, a channel within it and a p-bit.
-#[inline(always)]
-fn promote(bits: u32, e: u8, p: u8) -> u8
-    requires wide { 3 ≤ bits }
-    requires narrow { bits ≤ 7 }
-    requires channel { e < 2 ^ bits }
-    requires bit { p < 2 }
-    ensures { result ≡ p_shown bits p e }
-{
-    let v = u16::from(e) * 2 + u16::from(p);
-    ((v << (7 - bits)) + (v >> (2 * bits - 6))) as u8
+// The bits of a stored channel, as many as a mode can have.
+#[derive(Clone, Copy)]
+pub struct Width {
+    pub bits: u32,
+    ghost wide: { 3 ≤ bits },
+    ghost narrow: { bits ≤ 7 },
 }
 
-// The colour that a stored one shows with its p-bit.
-// Requires a width that a mode can have, channels within it and a p-bit.
-#[inline(always)]
-pub fn p_promote(bits: u32, c: Rgb, p: u8) -> Rgb
-    requires wide { 3 ≤ bits }
-    requires narrow { bits ≤ 7 }
-    requires channels { Below (2 ^ bits) c }
-    requires bit { p < 2 }
-    ensures { result ≡ each (p_shown bits p) c }
-{
-    Rgb {
-        r: promote(bits, c.r, p),
-        g: promote(bits, c.g, p),
-        b: promote(bits, c.b, p),
+impl Width {
+    // The byte that a channel of the width shows, with the p-bit below it. Requires a channel within the width, and a p-bit.
+    #[inline(always)]
+    fn promote(self, e: u8, p: u8) -> u8
+        requires channel { e < 2 ^ self.bits }
+        requires bit { p < 2 }
+        ensures { result ≡ p_shown self.bits p e }
+    {
+        let v = u16::from(e) * 2 + u16::from(p);
+        // narrows a value that the check proves to fit
+        ((v << (7 - self.bits)) + (v >> (2 * self.bits - 6))) as u8
+    }
+
+    // The colour that a stored one shows with its p-bit. Requires channels within the width, and a p-bit.
+    #[inline(always)]
+    pub fn p_promote(self, c: Rgb, p: u8) -> Rgb
+        requires channels { Below (2 ^ self.bits) c }
+        requires bit { p < 2 }
+        ensures { result ≡ each (p_shown self.bits p) c }
+    {
+        Rgb {
+            r: self.promote(c.r, p),
+            g: self.promote(c.g, p),
+            b: self.promote(c.b, p),
+        }
     }
 }
 
-// A channel between two, at a weight in parts of 256.
+// A channel between two, at a weight in parts of 256. Requires a weight up to 256, as a mode's law says of its weights.
 #[tactic(auto, unfolding(bptc::specs::Palette::blend))]
 fn interpolate(weight: u16, a: u8, b: u8) -> u8
     requires { weight ≤ 256 }
     ensures { result ≡ blend weight a b }
 {
+    // narrows a value that the check proves to fit
     (((256 - weight) * u16::from(a) + weight * u16::from(b) + 128) / 256) as u8
 }
 

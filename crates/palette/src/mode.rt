@@ -4,6 +4,8 @@ ghost use Rattle.bptc.specs.Mode.{Mode as ModeRecord, mode1, mode3, IsMode, larg
 ghost use Rattle.bptc.specs.Palette.{row_weights};
 ghost use Rattle.bptc.proofs.Modes.{is_mode1, is_mode3};
 
+use crate::colour::Width;
+
 // A mode, by its number, its widths and its weights.
 pub trait Mode {
     const NUMBER: u8;
@@ -45,19 +47,31 @@ pub trait Mode {
 
     ghost is_mode: { IsMode mode };
 
-    // The greatest channel, the greatest p-bits and the greatest index.
+    // The width of a stored channel.
+    #[inline(always)]
+    final fn width() -> Width
+        ensures { result.bits ≡ mode.channel_bits }
+    {
+        Width {
+            bits: Self::CHANNEL_BITS,
+        }
+    }
+
+    // The greatest channel. A function, as those after it are: no constant of a trait is computed of another.
     final fn max_channel() -> u8
         ensures { result ≡ 2 ^ mode.channel_bits - 1 }
     {
         (1 << Self::CHANNEL_BITS) - 1
     }
 
+    // The greatest p-bits, as one number.
     final fn max_p() -> u8
         ensures { result ≡ 2 ^ mode.p_bits - 1 }
     {
         (1 << Self::P_BITS) - 1
     }
 
+    // The largest index.
     #[tactic(auto, unfolding(bptc::specs::Mode::largest))]
     final fn max_index() -> u8
         ensures { result ≡ largest mode }

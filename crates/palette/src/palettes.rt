@@ -6,27 +6,29 @@ ghost use Rattle.bptc.specs.Shown.{Stored, end_shown_by};
 ghost use Rattle.bptc.specs.Palette.{blended_rows, coloured, palettes};
 
 use crate::Mode;
-use crate::colour::{interpolate_rgb, p_promote};
+use crate::colour::{Width, interpolate_rgb};
 use bptc::{Colour, Rgb};
+use std::alloc::AllocError;
+use std::marker::PhantomData;
 
-// The colour that endpoint k shows, by the widths of a mode.
+// The colour that endpoint k shows, by the widths of a mode. Requires one of the four endpoints, no more p-bits than these, and channels
+// within the width: `Ends` has that of a mode's, and these are of any width.
 #[inline(always)]
 #[tactic(auto, unfolding(bptc::specs::Shown::end_shown_by))]
-fn end_shown(bits: u32, p_bits: u32, ends: [Rgb; 4], p: u8, k: usize) -> Rgb
-    requires wide { 3 ≤ bits }
-    requires narrow { bits ≤ 7 }
+fn end_shown(width: Width, p_bits: u32, ends: [Rgb; 4], p: u8, k: usize) -> Rgb
     requires most { p_bits ≤ 4 }
     requires four { k < 4 }
-    requires channels { Below (2 ^ bits) (get_or ends k black) }
-    ensures { result ≡ end_shown_by bits p_bits ends p k }
+    requires channels { Below (2 ^ width.bits) (get_or ends k black) }
+    ensures { result ≡ end_shown_by width.bits p_bits ends p k }
 {
-    let c = ends[k];
+    // Rust has no `From` between the two
     let i = (k as u32) * p_bits / 4;
-    p_promote(bits, c, (p >> i) % 2)
+    width.p_promote(ends[k], (p >> i) % 2)
 }
 
 // The palette between e[0] and e[1] and that between e[2] and e[3]: as many colours as the mode has, then black.
-// Requires no more colours than a row has, and weights in parts of 256.
+// Requires no more colours than a row has, which has eight places in either mode, and weights in parts of 256. The loop has an index, since
+// it writes both rows.
 #[inline(always)]
 pub fn rows(weights: &[u16; 8], colours: usize, e: [Rgb; 4]) -> [[Colour; 8]; 2]
     requires few { colours ≤ 8 }
@@ -46,32 +48,59 @@ pub fn rows(weights: &[u16; 8], colours: usize, e: [Rgb; 4]) -> [[Colour; 8]; 2]
     [first, second]
 }
 
-// The colours that the four endpoints show, by the widths of a mode. Requires widths that a mode can have, and channels within them.
+// The colours that the four endpoints show, by the widths of a mode. Requires no more p-bits than endpoints, and channels within the width.
+// Each by its place, since `array::from_fn` is slower (finishing at fixed p-bits in mode 1 1520 to 1560 instructions, in mode 3 at free
+// ones 2829 to 3168).
 #[inline(always)]
-pub fn ends_shown(bits: u32, p_bits: u32, ends: [Rgb; 4], p: u8) -> [Rgb; 4]
-    requires wide { 3 ≤ bits }
-    requires narrow { bits ≤ 7 }
+pub fn ends_shown(width: Width, p_bits: u32, ends: [Rgb; 4], p: u8) -> [Rgb; 4]
     requires most { p_bits ≤ 4 }
-    requires channels { (k : ℕ) → k < 4 → Below (2 ^ bits) (get_or ends k black) }
-    ensures { result ≡ map (end_shown_by bits p_bits ends p) (up_from 0 4) }
+    requires channels { (k : ℕ) → k < 4 → Below (2 ^ width.bits) (get_or ends k black) }
+    ensures { result ≡ map (end_shown_by width.bits p_bits ends p) (up_from 0 4) }
 {
     [
-        end_shown(bits, p_bits, ends, p, 0),
-        end_shown(bits, p_bits, ends, p, 1),
-        end_shown(bits, p_bits, ends, p, 2),
-        end_shown(bits, p_bits, ends, p, 3),
+        end_shown(width, p_bits, ends, p, 0),
+        end_shown(width, p_bits, ends, p, 1),
+        end_shown(width, p_bits, ends, p, 2),
+        end_shown(width, p_bits, ends, p, 3),
     ]
 }
 
-// Both palettes of a mode, a row of eight colours for each subset, black past the largest index.
-// Requires that the endpoints are within the mode's width.
-#[inline(always)]
-pub fn palettes<M: Mode>(ends: [Rgb; 4], p: u8) -> [[Colour; 8]; 2]
-    requires { Stored M.mode ends }
-    ensures { result ≡ coloured (palettes M.mode ends p) }
-{
-    // in a local, as the compiler does not see through a reference that the constant's entries are the same in every turn
-    let weights = M::WEIGHTS;
-    let shown = ends_shown(M::CHANNEL_BITS, M::P_BITS, ends, p);
-    rows(&weights, M::colours(), shown)
+// Stored endpoints of a mode, each channel within its width. They are copied, which stands by hand since a derive over a generic ghost
+// field is refused: by reference the least keys of mode 1 take 1142 instructions in place of 1124.
+pub struct Ends<M: Mode> {
+    pub stored: [Rgb; 4],
+    mode: PhantomData<M>,
+    ghost within: { Stored M.mode stored },
+}
+
+impl<M: Mode> Copy for Ends<M> {}
+
+impl<M: Mode> Clone for Ends<M> {
+    fn clone(&self) -> Result<Self, AllocError> {
+        Ok(*self)
+    }
+}
+
+impl<M: Mode> Ends<M> {
+    // Endpoints of the mode. Requires channels within its width.
+    pub fn new(stored: [Rgb; 4]) -> Ends<M>
+        requires { Stored M.mode stored }
+        ensures { result.stored ≡ stored }
+    {
+        Ends {
+            stored,
+            mode: PhantomData,
+        }
+    }
+
+    // Both palettes at p-bits, a row of eight colours for each subset, black past the largest index.
+    #[inline(always)]
+    pub fn palettes(self, p: u8) -> [[Colour; 8]; 2]
+        ensures { result ≡ coloured (palettes M.mode self.stored p) }
+    {
+        // in a local, as the compiler does not see through a reference that the constant's entries are the same in every turn
+        let weights = M::WEIGHTS;
+        let shown = ends_shown(M::width(), M::P_BITS, self.stored, p);
+        rows(&weights, M::colours(), shown)
+    }
 }

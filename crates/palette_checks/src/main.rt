@@ -1,16 +1,14 @@
 // Prints what the crates palette and finishing give for worked examples; the gate holds it to the file `stdout`.
 #![tactic(auto)]
 
-ghost use Rattle.std.specs.Prelude.{◌≡◌, ◌<◌, length};
-ghost use Rattle.bptc.specs.Mode.{mode1, mode3};
-ghost use Rattle.bptc.specs.Shown.{Stored};
+ghost use Rattle.std.specs.Prelude.{◌≡◌, ◌<◌};
 
 use bptc_block::PBits;
-use finishing::{Indices, nearest};
-use palette::colour::p_promote;
-use palette::palettes::rows;
+use finishing::{FreeBits, Query, nearest};
+use palette::palettes::{Ends, rows};
 use palette::{Colour, Mode, Mode1, Mode3, Rgb};
-use std::{fmt, io};
+use partitions::Partition;
+use std::{array, fmt, io};
 
 // The reds of colours, each with a space after it.
 #[derive(Drop)]
@@ -25,7 +23,7 @@ impl fmt::Display for Reds<'_> {
     }
 }
 
-// A number for each pixel, with nothing between them.
+// A number for each pixel, with nothing between them, where `{:?}` of an array puts brackets and commas.
 #[derive(Clone, Copy)]
 struct Digits([u8; 16]);
 
@@ -46,15 +44,15 @@ fn grey(v: u8) -> Rgb
 }
 
 // The byte that a channel of mode 1 shows.
-fn put_shown(rt: &impl Print, e: u8, p: u8) -> io::Result<()>
+fn print_shown(rt: &impl Print, e: u8, p: u8) -> io::Result<()>
     requires channel { e < 64 }
     requires bit { p < 2 }
 {
-    println!(rt; "shown {}", p_promote(Mode1::CHANNEL_BITS, grey(e), p).r)
+    println!(rt; "shown {}", Mode1::width().p_promote(grey(e), p).r)
 }
 
 // P10: both palettes between black and white.
-fn put_palettes(rt: &impl Print) -> io::Result<()> {
+fn print_palettes(rt: &impl Print) -> io::Result<()> {
     let a = grey(0);
     let b = grey(255);
     let four = rows(&Mode3::WEIGHTS, Mode3::colours(), [a, b, a, b])[0];
@@ -64,39 +62,26 @@ fn put_palettes(rt: &impl Print) -> io::Result<()> {
 }
 
 // A partition: the subset of each pixel, then the size of subset 1, its first pixel, 16 where there is none, and its anchor.
-fn put_partition(rt: &impl Print, partition: usize) -> io::Result<()>
-    requires { partition < 64 }
-{
-    let mut subsets = [0u8; 16];
-    for i in 0..16 {
-        subsets[i] = partitions::subset(partition, i);
-    }
+fn print_partition(rt: &impl Print, partition: Partition) -> io::Result<()> {
+    let subsets: [u8; 16] = array::from_fn(|i| partition.subset(i));
     let first = subsets.iter().position(|&s| s == 1).unwrap_or(16);
     println!(rt;
         "partition {} {} {} {} {}",
-        partition,
+        partition.number,
         Digits(subsets),
-        partitions::size(partition),
+        partition.size(),
         first,
-        partitions::anchor(partition)
+        partition.anchor()
     )
 }
 
-// Sixteen pixels of many colours.
-fn pixels() -> [u8; 48]
-    ensures { length result ≡ 48 }
-{
-    let mut out = [0u8; 48];
-    for (i, byte) in out.iter_mut().enumerate() {
-        *byte = ((i * 53 + i / 3 * 29) % 256) as u8;
-    }
-    out
+// Sixteen pixels of many colours; cast, as each byte is below 256.
+fn pixels() -> [u8; 48] {
+    array::from_fn(|i| ((i * 53 + i / 3 * 29) % 256) as u8)
 }
 
 // Endpoints of mode 1.
-fn ends1() -> [Rgb; 4]
-    ensures { Stored mode1 result }
-{
+fn ends1() -> Ends<Mode1> {
     let a = Rgb { r: 3, g: 60, b: 17 };
     let b = Rgb { r: 55, g: 8, b: 40 };
     let c = Rgb {
@@ -105,13 +90,11 @@ fn ends1() -> [Rgb; 4]
         b: 22,
     };
     let d = Rgb { r: 63, g: 0, b: 33 };
-    [a, b, c, d]
+    Ends::new([a, b, c, d])
 }
 
-// Endpoints of mode 3.
-fn ends3() -> [Rgb; 4]
-    ensures { Stored mode3 result }
-{
+// Endpoints of mode 3: other numbers, in another type.
+fn ends3() -> Ends<Mode3> {
     let a = Rgb {
         r: 3,
         g: 120,
@@ -132,13 +115,14 @@ fn ends3() -> [Rgb; 4]
         g: 0,
         b: 99,
     };
-    [a, b, c, d]
+    Ends::new([a, b, c, d])
 }
 
-// A mode's indices, of so many numbers each, the p-bits and the error of both subsets.
-fn put_found(rt: &impl Print, mode: u8, found: Indices, numbers: u64) -> io::Result<()>
-    requires { 0 < numbers }
-{
+// The indices of a query, digits of one number that a loop takes off it one by one, the p-bits and the error of both subsets; cast, as a
+// mode has few colours.
+fn print_found<M: FreeBits>(rt: &impl Print, query: Query<M>, p: PBits) -> io::Result<()> {
+    let found = nearest(&query, p);
+    let numbers = M::colours() as u64;
     let mut left = found.indexes;
     let mut indices = [0u8; 16];
     for index in indices.iter_mut() {
@@ -147,34 +131,43 @@ fn put_found(rt: &impl Print, mode: u8, found: Indices, numbers: u64) -> io::Res
     }
     println!(rt;
         "mode {} {} {} {}",
-        mode,
+        M::NUMBER,
         Digits(indices),
         found.p,
         found.error
     )
 }
 
-// The search in both modes over a partition, at p-bits that are fixed or free.
-fn put_searches(rt: &impl Print, partition: usize, p1: PBits, p3: PBits) -> io::Result<()>
-    requires { partition < 64 }
-{
+// The search in both modes over a partition, at p-bits that are fixed or free. The queries are of two types.
+fn print_searches(rt: &impl Print, partition: Partition, p1: PBits, p3: PBits) -> io::Result<()> {
     let bytes = pixels();
-    put_found(rt, 1, nearest::<Mode1>(ends1(), p1, &bytes, partition), 8)?;
-    put_found(rt, 3, nearest::<Mode3>(ends3(), p3, &bytes, partition), 4)
+    let query1 = Query {
+        ends: ends1(),
+        pixels: &bytes,
+        partition,
+    };
+    let query3 = Query {
+        ends: ends3(),
+        pixels: &bytes,
+        partition,
+    };
+    print_found(rt, query1, p1)?;
+    print_found(rt, query3, p3)
 }
 
 // The examples, one after the other.
 fn main(rt: HostRuntime) -> io::Result<()> {
-    put_shown(&rt, 63, 1)?;
-    put_shown(&rt, 63, 0)?;
-    put_shown(&rt, 0, 1)?;
-    put_palettes(&rt)?;
-    for partition in 0..64 {
-        put_partition(&rt, partition)?;
-        let p1 = PBits::Fixed((partition % 4) as u8);
-        let p3 = PBits::Fixed((partition % 16) as u8);
-        put_searches(&rt, partition, p1, p3)?;
-        put_searches(&rt, partition, PBits::Free, PBits::Free)?;
+    print_shown(&rt, 63, 1)?;
+    print_shown(&rt, 63, 0)?;
+    print_shown(&rt, 0, 1)?;
+    print_palettes(&rt)?;
+    for number in 0..64 {
+        let partition = Partition { number };
+        print_partition(&rt, partition)?;
+        let p1 = PBits::Fixed(number % 4);
+        let p3 = PBits::Fixed(number % 16);
+        print_searches(&rt, partition, p1, p3)?;
+        print_searches(&rt, partition, PBits::Free, PBits::Free)?;
     }
     Ok(())
 }

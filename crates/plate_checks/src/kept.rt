@@ -4,7 +4,7 @@ use std::fs;
 use std::fs::File;
 use std::io::Print;
 
-// The bytes of a file, of which the buffer must have room for all; none where it cannot be read.
+// The bytes of a file, of which the buffer must have room for all; none where it cannot be read, as no file that is compared is empty.
 pub(crate) fn read<'b>(rt: &HostRuntime, path: &str, buffer: &'b mut [u8]) -> &'b [u8] {
     let Ok(mut file) = File::open(rt, path) else {
         return &[];

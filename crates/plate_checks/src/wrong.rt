@@ -94,7 +94,7 @@ const LINES: [&[u8]; 14] = [
     b"show\x00small.bc7\x005\x00-3\x00out.ppm\x00",
 ];
 
-// Runs each of these lines.
+// Runs each line with wrong arguments, with a file that is not there or with an output that is an input.
 pub(crate) fn arguments(rt: &HostRuntime) {
     for line in LINES {
         run(rt, line);

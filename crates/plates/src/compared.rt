@@ -1,7 +1,8 @@
 // A photograph and its plate, opened together and measured a row of blocks at a time.
-ghost use Rattle.std.specs.Prelude.{◌≡◌, ◌+◌, ◌*◌, ◌<◌, ◌≤◌, OnOk};
+ghost use Rattle.std.specs.Prelude.{◌≡◌, ◌+◌, ◌*◌, ◌<◌, length, IfOk, OnOk};
+ghost use Rattle.groups.specs.Cutting.{groups_across};
 
-use crate::buffers::Buffers;
+use crate::buffers::{Buffers, Parts};
 use crate::failure::Failure;
 use crate::photo::Photo;
 use crate::plate::Plate;
@@ -35,30 +36,32 @@ impl<'a> Pair<'a> {
         self.plate.rewind()
     }
 
-    // Reads a row of the photograph and of the plate, measures its blocks and counts their errors.
-    pub(crate) fn measure_row(
+    // Reads a row of the photograph and of the plate, measures its blocks and counts their errors; answers the blocks and the errors. The
+    // buffers and the tally are no fields beside the pair: the tally would be lent with what is answered.
+    pub(crate) fn measure_row<'b>(
         &self,
         row: usize,
-        buffers: &mut Buffers,
+        buffers: &'b mut Buffers,
         tally: &mut Tally,
-    ) -> Result<(), Failure<'a>>
+    ) -> Result<(&'b [u8], &'b [u32]), Failure<'a>>
         requires { (row * 4 < self.now.photo.size.height) × (tally.old.rows ≡ row) }
-        ensures { OnOk result (tally.new.rows ≡ row + 1) }
+        ensures counted { OnOk result (tally.new.rows ≡ row + 1) }
+        ensures errors { IfOk result (λ measured. length measured.1.now ≡ groups_across self.now.photo.size.width) }
     {
-        let columns = self.photo.size.columns();
-        let groups = &mut buffers.groups[..];
-        let groups = &mut groups[..columns * 48];
-        let blocks = &mut buffers.blocks[..];
-        let blocks = &mut blocks[..columns * 16];
-        let errors = &mut buffers.errors[..];
-        let errors = &mut errors[..columns];
-        self.photo.read_groups(row, &mut buffers.band, groups)?;
+        let columns = self.photo.size.columns().get();
+        let Parts {
+            band,
+            groups,
+            blocks,
+            errors,
+        } = buffers.parts(columns);
+        self.photo.read_groups(row, band, groups)?;
         self.plate.read_blocks(blocks)?;
         if let Err(declined) = measure_row(groups, blocks, errors) {
             let place = Place::at(row, columns, declined.at);
             return Err(self.plate.declined(declined.refusal, place));
         }
         tally.add_row(errors);
-        Ok(())
+        Ok((blocks, errors))
     }
 }

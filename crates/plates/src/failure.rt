@@ -28,6 +28,7 @@ impl Display for Mistake<'_> {
     }
 }
 
+// A `From` for each kind of mistake, by hand: no impl comes from a macro.
 impl From<InputMistake> for Mistake<'_> {
     fn from(mistake: InputMistake) -> Self {
         Mistake::Input(mistake)
@@ -69,7 +70,8 @@ impl<'a> Failure<'a> {
     }
 }
 
-// Says the line of a mistake: the file or the argument that it is about, and what is wrong with it.
+// Says the line of a mistake: the file or the argument that it is about, and what is wrong with it. `say_done` has other words on both
+// sides.
 pub fn say_failure<M: Display + Drop>(rt: &impl Print, what: &[u8], mistake: M) {
     say(rt, b"failed: ");
     say(rt, what);

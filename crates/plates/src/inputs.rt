@@ -1,7 +1,9 @@
-// Input files: opened for reading, and their length.
-use crate::failure::Failure;
+// Input files: opened for reading, their length, and their bytes.
+ghost use Rattle.io.specs.Counts.{IsPrefixLen};
+
+use crate::failure::{Failure, Mistake};
 use crate::reason::Reason;
-use files::{FileId, Kind, Status, status_of};
+use files::{FileId, Kind, read_full, status_of};
 use std::fs::File;
 use std::io::{ErrorKind, Seek, SeekFrom};
 use std::{fmt, io};
@@ -38,40 +40,65 @@ pub(crate) fn open_path(rt: &HostRuntime, path: &[u8]) -> io::Result<File> {
     File::open(rt, path_text(path)?)
 }
 
-// Refuses what is known of an open file unless it is a regular one.
-pub(crate) fn check_regular(status: Option<Status>) -> Result<(), InputMistake> {
-    match status.map(|known| known.kind) {
-        Some(Kind::Regular) => Ok(()),
-        Some(Kind::Folder) => Err(InputMistake::Folder),
-        _ => Err(InputMistake::Device),
+// A regular file that is open for reading, and its path.
+#[derive(Drop)]
+pub struct Input<'a> {
+    pub path: &'a [u8],
+    file: File,
+}
+
+impl<'a> Input<'a> {
+    // The open file of a path, where it is a regular one.
+    pub(crate) fn of(path: &'a [u8], file: File) -> Result<Input<'a>, Failure<'a>> {
+        let kind = status_of(&file).map(|known| known.kind);
+        let input = Input { path, file };
+        match kind {
+            Some(Kind::Regular) => Ok(input),
+            Some(Kind::Folder) => Err(input.failure(InputMistake::Folder)),
+            // one of which nothing is known is no regular file either
+            _ => Err(input.failure(InputMistake::Device)),
+        }
     }
-}
 
-// Which file an open file is, where that is known.
-pub fn id_of(file: &File) -> Option<FileId> {
-    Some(status_of(file)?.id)
-}
+    // Opens the file of a path.
+    pub fn open(rt: &HostRuntime, path: &'a [u8]) -> Result<Input<'a>, Failure<'a>> {
+        match open_path(rt, path) {
+            Ok(file) => Input::of(path, file),
+            Err(error) => Err(Failure::new(path, InputMistake::NotOpened(error))),
+        }
+    }
 
-// Opens a regular file for reading.
-pub fn open<'a>(rt: &HostRuntime, path: &'a [u8]) -> Result<File, Failure<'a>> {
-    let file = open_path(rt, path).map_err(|error| Failure::new(
-        path,
-        InputMistake::NotOpened(error),
-    ))?;
-    check_regular(status_of(&file)).map_err(|mistake| Failure::new(path, mistake))?;
-    Ok(file)
-}
+    // Which file it is, where that is known.
+    pub fn id(&self) -> Option<FileId> {
+        Some(status_of(&self.file)?.id)
+    }
 
-// The length of an open file.
-pub(crate) fn length_of(mut file: &File) -> Result<u64, InputMistake> {
-    file.seek(SeekFrom::End(0))
-        .map_err(|_| InputMistake::NoLength)
-}
+    // The failure of this file.
+    pub(crate) fn failure<M: Into<Mistake<'a>>>(&self, mistake: M) -> Failure<'a> {
+        Failure::new(self.path, mistake)
+    }
 
-// Goes to a place of an open file.
-pub(crate) fn go_to(mut file: &File, place: u64) -> Result<(), InputMistake> {
-    match file.seek(SeekFrom::Start(place)) {
-        Ok(_) => Ok(()),
-        Err(error) => Err(InputMistake::NotRead(error)),
+    // Its length.
+    pub(crate) fn length(&self) -> Result<u64, Failure<'a>> {
+        let mut file = &self.file;
+        file.seek(SeekFrom::End(0))
+            .map_err(|_| self.failure(InputMistake::NoLength))
+    }
+
+    // Goes to a place of it.
+    pub(crate) fn go_to(&self, place: u64) -> Result<(), Failure<'a>> {
+        let mut file = &self.file;
+        match file.seek(SeekFrom::Start(place)) {
+            Ok(_) => Ok(()),
+            Err(error) => Err(self.failure(InputMistake::NotRead(error))),
+        }
+    }
+
+    // Reads on until a buffer is full or the file ends: how many bytes it put at the buffer's start.
+    pub fn read(&self, to: &mut [u8]) -> usize
+        ensures { IsPrefixLen result to.new }
+    {
+        let mut file = &self.file;
+        read_full(&mut file, to)
     }
 }

@@ -1,4 +1,5 @@
-// Lines that are written to standard output together, since each write is a call of the system.
+// Lines that are written to standard output together, since each write is a call of the system. They wait in fixed memory, where std's
+// `BufWriter` takes heap.
 use crate::said::say;
 use std::fmt::{Display, Write};
 use std::io::Print;

@@ -1,11 +1,11 @@
 // `bc7 map`: the errors of a plate as a picture, a block a pixel, from black for none to white for the worst.
-ghost use Rattle.std.specs.Prelude.{◌≡◌, ◌<◌, ◌≤◌};
+ghost use Rattle.std.specs.Prelude.{◌≡◌, ◌<◌};
 ghost use Rattle.groups.specs.Cutting.{groups_across};
 
 use crate::buffers::Buffers;
 use crate::compared::Pair;
 use crate::failure::Failure;
-use crate::measuring::measure_rows;
+use crate::measuring::{Shown, measure_rows};
 use crate::output::Output;
 use crate::progress::{RowWork, each_row};
 use crate::said::say_done;
@@ -42,11 +42,11 @@ impl<'a> RowWork for Mapping<'a, '_> {
     }
 
     fn work_on(&mut self, _rt: &HostRuntime, row: usize) -> Result<(), Failure<'a>> {
-        self.pair.measure_row(row, self.buffers, &mut self.tally)?;
-        let columns = self.pair.photo.size.columns();
+        let (_, errors) = self.pair.measure_row(row, self.buffers, &mut self.tally)?;
+        // Room for the longest row: the program takes no heap.
         let mut line = [0u8; SHADES];
-        let line = &mut line[..columns * 3];
-        shades(&self.buffers.errors[..columns], self.worst, line);
+        let line = &mut line[..errors.len() * 3];
+        shades(errors, self.worst, line);
         self.out.write(line)
     }
 }
@@ -60,7 +60,7 @@ fn map_rows<'a>(
 ) -> Result<(), Failure<'a>> {
     let size = pair.photo.size;
     out.write_header(Size {
-        width: size.columns(),
+        width: size.columns().get(),
         height: size.rows(),
     })?;
     let mut buffers = Buffers::new();
@@ -82,10 +82,14 @@ pub fn map<'a>(
     out_path: &'a [u8],
 ) -> Result<(), Failure<'a>> {
     let pair = Pair::open(rt, photo_path, plate_path)?;
-    let tally = measure_rows(rt, &pair, false, &mut [])?;
+    let tally = measure_rows(rt, &pair, Shown::Total, &mut [])?;
     pair.rewind()?;
     let worst = tally.figures().worst;
-    let out = Output::create(rt, out_path, &[pair.photo.id(), pair.plate.id()])?;
+    let out = Output::create(
+        rt,
+        out_path,
+        &[pair.photo.input.id(), pair.plate.input.id()],
+    )?;
     let mapped = map_rows(rt, &pair, worst, &out);
     out.settle(rt, mapped)?;
     let _ = println!(rt; "scale: black is an error of 0, white is {worst}, the worst block's");

@@ -1,5 +1,5 @@
 // `bc7 measure`: how far each block of a plate lies from its photograph.
-ghost use Rattle.std.specs.Prelude.{◌≡◌, ◌<◌, ◌≤◌};
+ghost use Rattle.std.specs.Prelude.{◌≡◌, ◌<◌};
 ghost use Rattle.groups.specs.Cutting.{groups_across};
 
 use crate::buffers::Buffers;
@@ -15,19 +15,22 @@ use figures::entry::Entry;
 // The most of the worst blocks that are shown.
 pub const MOST: usize = 1000;
 
-// What is shown before the figures: a line for each block, for so many of the worst and at most MOST, or none.
+// What is shown before the figures: a line for each block, for so many of the worst and at most MOST, for each and then the worst again,
+// or none.
 #[derive(Clone, Copy, Debug, PartialEq, Eq)]
 pub enum Shown {
     Table,
     Worst(usize),
+    Both(usize),
     Total,
 }
 
-// A plate that is measured: the buffers, the figures so far, and the worst blocks.
+// A plate that is measured: what is shown, the worst blocks, the buffers and the figures so far. The worst blocks are a list beside what is
+// shown, and empty where none are: their lines are put after the last row, whatever is shown.
 #[derive(Drop)]
 struct Measuring<'a, 'b> {
     pair: &'b Pair<'a>,
-    table: bool,
+    shown: Shown,
     worst: &'b mut [Option<Entry>],
     buffers: &'b mut Buffers,
     tally: Tally,
@@ -45,19 +48,25 @@ impl<'a> RowWork for Measuring<'a, '_> {
     }
 
     fn name(&self) -> Option<&'static str> {
-        if self.table { None } else { Some("measuring") }
+        match self.shown {
+            Shown::Table | Shown::Both(_) => None,
+            Shown::Worst(_) | Shown::Total => Some("measuring"),
+        }
     }
 
     fn work_on(&mut self, rt: &HostRuntime, row: usize) -> Result<(), Failure<'a>> {
-        self.pair.measure_row(row, self.buffers, &mut self.tally)?;
-        let columns = self.pair.photo.size.columns();
-        let buffers = &*self.buffers;
-        let blocks = &buffers.blocks[..columns * 16];
-        let errors = &buffers.errors[..columns];
-        if self.table {
-            put_row(rt, row, blocks, errors);
+        // before the buffers are lent, since a field has no rule after that
+        let worst = &mut *self.worst;
+        let (blocks, errors) = self.pair.measure_row(row, self.buffers, &mut self.tally)?;
+        match self.shown {
+            Shown::Table => put_row(rt, row, blocks, errors),
+            Shown::Worst(_) => insert_row(row, blocks, errors, worst),
+            Shown::Both(_) => {
+                put_row(rt, row, blocks, errors);
+                insert_row(row, blocks, errors, worst);
+            }
+            Shown::Total => {}
         }
-        insert_row(row, blocks, errors, self.worst);
         Ok(())
     }
 }
@@ -66,13 +75,13 @@ impl<'a> RowWork for Measuring<'a, '_> {
 pub(crate) fn measure_rows<'a>(
     rt: &HostRuntime,
     pair: &Pair<'a>,
-    table: bool,
+    shown: Shown,
     worst: &mut [Option<Entry>],
 ) -> Result<Tally, Failure<'a>> {
     let mut buffers = Buffers::new();
     let mut work = Measuring {
         pair,
-        table,
+        shown,
         worst,
         buffers: &mut buffers,
         tally: Tally::new(),
@@ -95,10 +104,10 @@ pub fn measure<'a>(
     // Room for the most: the program takes no heap.
     let mut all = [None; MOST];
     let worst = match shown {
-        Shown::Worst(n) => &mut all[..n.min(MOST)],
+        Shown::Worst(n) | Shown::Both(n) => &mut all[..n.min(MOST)],
         Shown::Table | Shown::Total => &mut all[..0],
     };
-    let tally = measure_rows(rt, &pair, shown == Shown::Table, worst)?;
+    let tally = measure_rows(rt, &pair, shown, worst)?;
     let columns = pair.photo.size.columns();
     put_worst(rt, worst, columns);
     let report = Report::new(&tally, columns);

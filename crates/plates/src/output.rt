@@ -1,9 +1,9 @@
 // An output: written to a new file beside it, and renamed at the end, so that the old one is whole until then.
 use crate::failure::Failure;
-use crate::inputs::{check_regular, open_path, path_text};
+use crate::inputs::{Input, open_path, path_text};
 use crate::reason::Reason;
 use crate::size::Size;
-use files::{FileId, status_of};
+use files::FileId;
 use std::fmt::Write as _;
 use std::fs::{File, OpenOptions};
 use std::io::{ErrorKind, Write};
@@ -28,7 +28,8 @@ impl fmt::Display for NewName<'_> {
 }
 
 impl NewName<'_> {
-    // The name in fixed memory, which has room for it behind a path of the greatest length.
+    // The name in fixed memory, which has room for it behind a path of the greatest length. Each call below makes it anew, as the text that
+    // the system takes borrows it.
     fn line(self) -> Line<4096> {
         let mut line = Line::new();
         let _ = write!(line, "{self}");
@@ -88,12 +89,11 @@ impl fmt::Display for OutputMistake<'_> {
 }
 
 // Refuses to replace an open file that is no regular one, or one of the inputs.
-fn check_old<'a>(path: &'a [u8], old: &File, inputs: &[Option<FileId>]) -> Result<(), Failure<'a>> {
-    let status = status_of(old);
-    check_regular(status).map_err(|mistake| Failure::new(path, mistake))?;
-    let id = status.map(|known| known.id);
+fn check_old<'a>(path: &'a [u8], old: File, inputs: &[Option<FileId>]) -> Result<(), Failure<'a>> {
+    let old = Input::of(path, old)?;
+    let id = old.id();
     if id.is_some() && inputs.contains(&id) {
-        return Err(Failure::new(path, OutputMistake::AlsoInput));
+        return Err(old.failure(OutputMistake::AlsoInput));
     }
     Ok(())
 }
@@ -106,7 +106,7 @@ fn replaceable<'a>(
 ) -> Result<&'a str, Failure<'a>> {
     let refused = |error| Failure::new(path, OutputMistake::NotReplaced(error));
     match open_path(rt, path) {
-        Ok(old) => check_old(path, &old, inputs)?,
+        Ok(old) => check_old(path, old, inputs)?,
         Err(error) if error.kind() == ErrorKind::NotFound => {}
         Err(error) => return Err(refused(error)),
     }
@@ -116,6 +116,7 @@ fn replaceable<'a>(
 // An output that is being written.
 #[derive(Drop)]
 pub struct Output<'a> {
+    // The path in it is the output's.
     name: NewName<'a>,
     file: File,
 }
@@ -156,11 +157,7 @@ impl<'a> Output<'a> {
 
     // Writes the header of a picture.
     pub(crate) fn write_header(&self, size: Size) -> Result<(), Failure<'a>> {
-        let header = NewHeader {
-            width: size.width,
-            height: size.height,
-        };
-        let text = header.text();
+        let text = NewHeader::from(size).text();
         self.write(text.as_bytes())
     }
 

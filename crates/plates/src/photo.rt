@@ -4,12 +4,10 @@ ghost use Rattle.groups.specs.Cutting.{groups_across};
 ghost use Rattle.text.specs.Ppm.{Sized};
 
 use crate::failure::Failure;
-use crate::inputs::{go_to, id_of, length_of, open};
+use crate::inputs::Input;
 use crate::size::Size;
-use files::{FileId, read_full};
 use groups::picture_bytes;
 use std::fmt;
-use std::fs::File;
 use text::ppm::{Header, HeaderError};
 
 // The bytes of four rows of the greatest width.
@@ -44,68 +42,51 @@ impl fmt::Display for PhotoMistake {
 // A photograph that is open for reading, the place of its pixels and its size.
 #[derive(Drop)]
 pub struct Photo<'a> {
-    path: &'a [u8],
-    file: File,
-    pixels: usize,
+    pub input: Input<'a>,
+    pixels: u64,
     pub size: Size,
     ghost near: { pixels ≤ 4096 },
 }
 
 // The header of an open photograph, in its first 4096 bytes: the program takes no heap, and its memory doesn't grow with a file.
-fn read_header<'a>(path: &'a [u8], mut file: &File) -> Result<Header, Failure<'a>>
+fn read_header<'a>(input: &Input<'a>) -> Result<Header, Failure<'a>>
     ensures { IfOk result (λ h. Sized h 4096) }
 {
     let mut first = [0u8; 4096];
-    let got = read_full(&mut file, &mut first);
-    Header::parse(&first[..got]).map_err(|error| Failure::new(path, PhotoMistake::Header(error)))
-}
-
-// Refuses a photograph that has more or fewer bytes than its header says.
-fn check_length<'a>(
-    path: &'a [u8],
-    file: &File,
-    pixels: usize,
-    size: Size,
-) -> Result<(), Failure<'a>>
-    requires { pixels ≤ 4096 }
-{
-    let has = length_of(file).map_err(|mistake| Failure::new(path, mistake))?;
-    let expected = pixels as u64 + picture_bytes(size.width, size.height) as u64;
-    if has != expected {
-        return Err(Failure::new(path, PhotoMistake::Length { has, expected }));
-    }
-    Ok(())
+    let got = input.read(&mut first);
+    Header::parse(&first[..got]).map_err(|error| input.failure(PhotoMistake::Header(error)))
 }
 
 impl<'a> Photo<'a> {
     // Opens a photograph.
     pub fn open(rt: &HostRuntime, path: &'a [u8]) -> Result<Photo<'a>, Failure<'a>> {
-        let file = open(rt, path)?;
-        let header = read_header(path, &file)?;
-        let pixels = header.pixels;
-        let size = Size {
-            width: header.width,
-            height: header.height,
-        };
-        check_length(path, &file, pixels, size)?;
+        let input = Input::open(rt, path)?;
+        let header = read_header(&input)?;
         let photo = Photo {
-            path,
-            file,
-            pixels,
-            size,
+            input,
+            // Rust has no From between usize and u64
+            pixels: header.pixels as u64,
+            size: Size::of(header),
         };
+        photo.check_length()?;
         photo.rewind()?;
         Ok(photo)
     }
 
-    // Which file it is, where that is known.
-    pub fn id(&self) -> Option<FileId> {
-        id_of(&self.file)
+    // Refuses a photograph that has more or fewer bytes than its header says.
+    fn check_length(&self) -> Result<(), Failure<'a>> {
+        let has = self.input.length()?;
+        // Rust has no From between usize and u64
+        let expected = self.pixels + picture_bytes(self.size.width, self.size.height) as u64;
+        if has != expected {
+            return Err(self.input.failure(PhotoMistake::Length { has, expected }));
+        }
+        Ok(())
     }
 
     // Goes to the first pixel.
     pub(crate) fn rewind(&self) -> Result<(), Failure<'a>> {
-        go_to(&self.file, self.pixels as u64).map_err(|mistake| Failure::new(self.path, mistake))
+        self.input.go_to(self.pixels)
     }
 
     // Reads the pixels of a row of groups and cuts them.
@@ -120,9 +101,8 @@ impl<'a> Photo<'a> {
     {
         let part = self.size.band(row);
         let n = picture_bytes(part.width, part.rows);
-        let mut file = &self.file;
-        if read_full(&mut file, &mut band[..n]) != n {
-            return Err(Failure::new(self.path, PhotoMistake::EndsEarly));
+        if self.input.read(&mut band[..n]) != n {
+            return Err(self.input.failure(PhotoMistake::EndsEarly));
         }
         part.cut(&band[..n], groups);
         Ok(())

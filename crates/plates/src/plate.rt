@@ -1,15 +1,13 @@
 // Plates: opened, their blocks counted, and read a row at a time.
-ghost use Rattle.std.specs.Prelude.{◌<◌, ◌≤◌};
+ghost use Rattle.std.specs.Prelude.{◌<◌};
 
 use crate::failure::Failure;
-use crate::inputs::{go_to, id_of, length_of, open};
+use crate::inputs::Input;
 use crate::report::Place;
 use crate::size::Size;
 use block::Refusal;
-use files::{FileId, read_full};
 use groups::number_at;
 use std::fmt;
-use std::fs::File;
 
 // The bytes of a row of blocks of the greatest width.
 pub const ROW: usize = 65536;
@@ -52,8 +50,7 @@ impl fmt::Display for PlateMistake {
 // A plate that is open for reading and how many blocks it has.
 #[derive(Drop)]
 pub(crate) struct Plate<'a> {
-    path: &'a [u8],
-    file: File,
+    pub input: Input<'a>,
     pub blocks: u64,
     ghost few: { blocks < 1152921504606846976 },
 }
@@ -61,62 +58,54 @@ pub(crate) struct Plate<'a> {
 impl<'a> Plate<'a> {
     // Opens a plate.
     pub(crate) fn open(rt: &HostRuntime, path: &'a [u8]) -> Result<Plate<'a>, Failure<'a>> {
-        let file = open(rt, path)?;
-        let has = length_of(&file).map_err(|mistake| Failure::new(path, mistake))?;
+        let input = Input::open(rt, path)?;
+        let has = input.length()?;
         let plate = Plate {
-            path,
-            file,
+            input,
             blocks: has / 16,
         };
         plate.rewind()?;
         if has % 16 != 0 {
-            return Err(Failure::new(path, PlateMistake::PartOfBlock { has }));
+            return Err(plate.input.failure(PlateMistake::PartOfBlock { has }));
         }
         Ok(plate)
     }
 
-    // Which file it is, where that is known.
-    pub(crate) fn id(&self) -> Option<FileId> {
-        id_of(&self.file)
-    }
-
-    // The failure of this plate.
-    pub(crate) fn failure(&self, mistake: PlateMistake) -> Failure<'a> {
-        Failure::new(self.path, mistake)
-    }
-
     // The failure of this plate by a block that is declined.
     pub(crate) fn declined(&self, refusal: Refusal, place: Place) -> Failure<'a> {
-        self.failure(match refusal {
+        self.input.failure(match refusal {
             Refusal::Reserved => PlateMistake::Reserved(place),
+            // no other refusal is one of a whole block that is read
             _ => PlateMistake::OtherMode(place),
         })
     }
 
     // Goes to the first block.
     pub(crate) fn rewind(&self) -> Result<(), Failure<'a>> {
-        go_to(&self.file, 0).map_err(|mistake| Failure::new(self.path, mistake))
+        self.input.go_to(0)
     }
 
     // Refuses a plate that has not the blocks of a picture of this size.
     pub(crate) fn check_size(&self, size: Size) -> Result<(), Failure<'a>> {
         let has = self.blocks;
-        let expected = number_at(size.rows(), size.columns(), 0) as u64;
+        // Rust has no From between usize and u64
+        let expected = number_at(size.rows(), size.columns().get(), 0) as u64;
         if has != expected {
-            return Err(self.failure(PlateMistake::OtherSize {
-                has,
-                expected,
-                size,
-            }));
+            return Err(
+                self.input.failure(PlateMistake::OtherSize {
+                    has,
+                    expected,
+                    size,
+                }),
+            );
         }
         Ok(())
     }
 
     // Reads the next blocks.
     pub(crate) fn read_blocks(&self, blocks: &mut [u8]) -> Result<(), Failure<'a>> {
-        let mut file = &self.file;
-        if read_full(&mut file, blocks) != blocks.len() {
-            return Err(self.failure(PlateMistake::EndsEarly));
+        if self.input.read(blocks) != blocks.len() {
+            return Err(self.input.failure(PlateMistake::EndsEarly));
         }
         Ok(())
     }

@@ -1,5 +1,5 @@
 // `bc7 read`: the fields of each block of a plate in words.
-ghost use Rattle.std.specs.Prelude.{◌+◌, ◌<◌, ◌≤◌, length};
+ghost use Rattle.std.specs.Prelude.{◌<◌};
 
 use crate::failure::Failure;
 use crate::lines::Lines;
@@ -12,7 +12,7 @@ use std::io::Print;
 // The blocks that are read at once.
 const BLOCKS: u64 = 4096;
 
-// An endpoint: red, green, blue.
+// An endpoint: red, green, blue. The colour itself is another crate's, where nothing prints it.
 #[derive(Clone, Copy)]
 struct End(Rgb);
 
@@ -22,21 +22,21 @@ impl fmt::Display for End {
     }
 }
 
-// The p-bits, the lowest first: one for each subset in mode 1, one for each endpoint in mode 3.
+// The p-bits of a block of mode 1 or 3, the lowest first: one for each subset in mode 1, one for each endpoint in mode 3. The mode is told
+// by its number, the form in which `block::read` answers it.
 #[derive(Clone, Copy)]
-struct PBits {
+struct BitList {
     mode: u8,
     p: u8,
 }
 
-impl fmt::Display for PBits {
+impl fmt::Display for BitList {
     fn fmt<W: fmt::Write>(&self, f: &mut fmt::Formatter<W>) -> fmt::Result {
         let p = self.p;
-        write!(f, "{} {}", p % 2, p / 2 % 2)?;
-        if self.mode == 3 {
-            write!(f, " {} {}", p / 4 % 2, p / 8 % 2)?;
+        match self.mode {
+            1 => write!(f, "{} {}", p % 2, p / 2 % 2),
+            _ => write!(f, "{} {} {} {}", p % 2, p / 2 % 2, p / 4 % 2, p / 8 % 2),
         }
-        Ok(())
     }
 }
 
@@ -70,7 +70,7 @@ impl fmt::Display for InWords {
             End(second),
             End(third),
             End(fourth),
-            PBits { mode, p: fields.p },
+            BitList { mode, p: fields.p },
             Indices(fields.indices)
         )
     }
@@ -89,6 +89,7 @@ impl fmt::Display for BlockLine {
         match self.reading {
             Ok(reading) => write!(f, "{}", InWords(reading)),
             Err(Refusal::Reserved) => f.write_str("reserved, its first byte is 0"),
+            // no other refusal is one of a whole block that is read
             Err(_) => f.write_str("another mode than 1 and 3"),
         }
     }
@@ -109,10 +110,13 @@ fn put_blocks(rt: &impl Print, blocks: &[u8], first: u64)
 
 // Reads the blocks of a plate, so many at a time.
 fn read_plate<'a>(rt: &impl Print, plate: &Plate<'a>) -> Result<(), Failure<'a>> {
+    // Room for the blocks of one part: the program takes no heap.
     let mut all = [0u8; ROW];
+    // by the parts' numbers: a `step_by` would want a step of another type than the blocks' numbers
     for part in 0..plate.blocks.div_ceil(BLOCKS) {
         let first = part * BLOCKS;
         let n = BLOCKS.min(plate.blocks - first);
+        // Rust has no From between u64 and usize
         let blocks = &mut all[..n as usize * 16];
         plate.read_blocks(blocks)?;
         put_blocks(rt, blocks, first);

@@ -36,7 +36,7 @@ fn progress(rt: &HostRuntime, name: &str, row: usize, rows: usize) {
     }
 }
 
-// Clears that line after the last row.
+// Clears the line that says which row is worked on, after the last row.
 fn progress_ended(rt: &HostRuntime, rows: usize) {
     let err = rt.stderr();
     if rows > EVERY && err.is_terminal() {
@@ -57,7 +57,7 @@ fn work_on_rows<T: RowWork>(rt: &HostRuntime, work: &mut T, rows: usize) -> Resu
     Ok(())
 }
 
-// Does the work on all rows, up to the first that fails.
+// Does the work on all rows, up to the first that fails. Each command makes its own work and buffers: a work has other parts for each.
 pub fn each_row<T: RowWork>(rt: &HostRuntime, work: &mut T) -> Result<(), T::Error>
     requires { T.ready work.old 0 }
 {

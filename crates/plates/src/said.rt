@@ -1,7 +1,7 @@
 // What a command says on standard output. That standard output takes no more is not reported.
 use std::io::Print;
 
-// Writes a text.
+// Writes bytes, which need be no text: a path can have any.
 pub fn say(rt: &impl Print, text: &[u8]) {
     let _ = rt.write_all(text);
 }

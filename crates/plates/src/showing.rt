@@ -1,8 +1,8 @@
 // `bc7 show`: the picture that a plate's blocks show.
-ghost use Rattle.std.specs.Prelude.{◌*◌, ◌<◌, ◌≤◌, ◌≡◌};
+ghost use Rattle.std.specs.Prelude.{◌<◌};
 ghost use Rattle.groups.specs.Cutting.{groups_across};
 
-use crate::buffers::Buffers;
+use crate::buffers::{Buffers, Parts};
 use crate::failure::Failure;
 use crate::output::Output;
 use crate::plate::Plate;
@@ -38,19 +38,19 @@ impl<'a> RowWork for Showing<'a, '_> {
     }
 
     fn work_on(&mut self, _rt: &HostRuntime, row: usize) -> Result<(), Failure<'a>> {
-        let columns = self.size.columns();
-        let buffers = &mut *self.buffers;
-        let blocks = &mut buffers.blocks[..];
-        let blocks = &mut blocks[..columns * 16];
-        let groups = &mut buffers.groups[..];
-        let groups = &mut groups[..columns * 48];
+        let columns = self.size.columns().get();
+        let Parts {
+            band,
+            groups,
+            blocks,
+            ..
+        } = self.buffers.parts(columns);
         self.plate.read_blocks(blocks)?;
         if let Err(declined) = read_row(blocks, groups) {
             let place = Place::at(row, columns, declined.at);
             return Err(self.plate.declined(declined.refusal, place));
         }
         let part = self.size.band(row);
-        let band = &mut buffers.band[..];
         let band = &mut band[..picture_bytes(part.width, part.rows)];
         part.put_back(groups, band);
         self.out.write(band)
@@ -84,7 +84,7 @@ pub fn show<'a>(
 ) -> Result<(), Failure<'a>> {
     let plate = Plate::open(rt, plate_path)?;
     plate.check_size(size)?;
-    let out = Output::create(rt, out_path, &[plate.id()])?;
+    let out = Output::create(rt, out_path, &[plate.input.id()])?;
     let shown = show_rows(rt, &plate, size, &out);
     out.settle(rt, shown)?;
     say_done(rt, out_path, "written");

@@ -1,10 +1,13 @@
 // The size of a picture.
 ghost use Rattle.std.specs.Prelude.{◌≡◌, ◌*◌, ◌<◌, ◌≤◌};
+ghost use Rattle.std.specs.Int.NonZero.{non_zero_usize_get};
 ghost use Rattle.groups.specs.Cutting.{groups_across};
 ghost use Rattle.plates.specs.Sizes.{Sized};
 
 use groups::{Band, across, rows_in};
 use std::fmt;
+use std::num::NonZeroUsize;
+use text::ppm::{Header, NewHeader};
 
 // A width and a height of 1 to 16,384 pixels.
 #[derive(Clone, Copy)]
@@ -15,11 +18,23 @@ pub struct Size {
 }
 
 impl Size {
-    // How many blocks a row of blocks has.
-    pub fn columns(self) -> usize
-        ensures { (result ≡ groups_across self.width) × (0 < result) × (result ≤ 4096) }
+    // The size that a header says. No `From`, which asks nothing of its value.
+    pub(crate) fn of(header: Header) -> Size
+        requires { Sized header.width header.height }
+        ensures { (result.width ≡ header.width) × (result.height ≡ header.height) }
     {
-        across(self.width)
+        Size {
+            width: header.width,
+            height: header.height,
+        }
+    }
+
+    // How many blocks a row of blocks has.
+    pub fn columns(self) -> NonZeroUsize
+        ensures { (non_zero_usize_get result ≡ groups_across self.width) × (non_zero_usize_get result ≤ 4096) }
+    {
+        // a width is no 0, so there is a block
+        NonZeroUsize::new(across(self.width)).unwrap()
     }
 
     // How many rows of blocks there are.
@@ -29,7 +44,7 @@ impl Size {
         across(self.height)
     }
 
-    // The band of a row of blocks.
+    // The band of a row of blocks. Requires that the row is inside, as a loop over the rows counts it.
     pub fn band(self, row: usize) -> Band
         requires { row * 4 < self.height }
         ensures { result.width ≡ self.width }
@@ -37,6 +52,17 @@ impl Size {
         Band {
             width: self.width,
             rows: rows_in(self.height, row),
+        }
+    }
+}
+
+impl From<Size> for NewHeader {
+    ghost from_gives = { λ size header. (header.width ≡ size.width) × (header.height ≡ size.height) };
+
+    fn from(size: Size) -> NewHeader {
+        NewHeader {
+            width: size.width,
+            height: size.height,
         }
     }
 }

@@ -1,5 +1,5 @@
 // The lines of measured blocks: column, row, mode, partition and error.
-ghost use Rattle.std.specs.Prelude.{◌≡◌, ◌+◌, ◌*◌, ◌<◌, ◌≤◌, length};
+ghost use Rattle.std.specs.Prelude.{◌*◌, ◌<◌, ◌≤◌, length};
 
 use crate::lines::Lines;
 use figures::entry::Entry;
@@ -7,15 +7,16 @@ use figures::worst::insert;
 use groups::number_at;
 use std::fmt;
 use std::io::Print;
+use std::num::NonZeroUsize;
 
 // A line of the table.
 #[derive(Clone, Copy, Debug, PartialEq, Eq)]
 struct TableLine {
-    column: u64,
-    row: u64,
-    mode: u64,
-    partition: u64,
-    error: u64,
+    column: usize,
+    row: usize,
+    mode: u8,
+    partition: u8,
+    error: u32,
 }
 
 impl fmt::Display for TableLine {
@@ -28,41 +29,42 @@ impl fmt::Display for TableLine {
     }
 }
 
-// The mode and the partition of a block; 0 for both where it is declined.
-fn mode_and_partition(block: &[u8]) -> (u8, u8) {
+// The mode and the partition of a block that is not declined.
+fn mode_and_partition(block: &[u8]) -> Option<(u8, u8)> {
     let mut pixels = [0u8; 48];
-    match block::read(block, &mut pixels) {
-        Ok(reading) => (reading.mode, reading.fields.partition),
-        Err(_) => (0, 0),
-    }
+    let reading = block::read(block, &mut pixels).ok()?;
+    Some((reading.mode, reading.fields.partition))
 }
 
-// The lines of a row of blocks.
+// The lines of a row of blocks that are measured, so that none is declined and left out. The walk stands in `insert_row` too: one for both
+// would call a closure with four numbers, and state when it may be called.
 pub(crate) fn put_row(rt: &impl Print, row: usize, blocks: &[u8], errors: &[u32]) {
     let mut lines = Lines::new(rt);
-    for (column, (block, error)) in blocks.chunks_exact(16).zip(errors).enumerate() {
-        let (mode, partition) = mode_and_partition(block);
+    for (column, (error, block)) in errors.iter().zip(blocks.chunks_exact(16)).enumerate() {
+        let Some((mode, partition)) = mode_and_partition(block) else {
+            continue;
+        };
         lines.put(TableLine {
-            column: column as u64,
-            row: row as u64,
-            mode: u64::from(mode),
-            partition: u64::from(partition),
-            error: u64::from(*error),
+            column,
+            row,
+            mode,
+            partition,
+            error: *error,
         });
     }
     lines.flush();
 }
 
-// Keeps the worst of a row of blocks.
+// Keeps the worst of a row of blocks that are measured, so that none is declined and left out.
 pub(crate) fn insert_row(row: usize, blocks: &[u8], errors: &[u32], worst: &mut [Option<Entry>])
     requires { (length errors.now ≤ 4096) × (row < 4096) }
 {
-    if worst.is_empty() {
-        return;
-    }
     let columns = errors.len();
     for (column, (error, block)) in errors.iter().zip(blocks.chunks_exact(16)).enumerate() {
-        let (mode, partition) = mode_and_partition(block);
+        let Some((mode, partition)) = mode_and_partition(block) else {
+            continue;
+        };
+        // below 2 ^ 24, as a row and a column are below 2 ^ 12
         let number = number_at(row, columns, column) as u32;
         let entry = Entry::new(*error, number, mode, partition);
         // most blocks are no worse than the last of these, and would fall out after a walk over all places
@@ -73,26 +75,23 @@ pub(crate) fn insert_row(row: usize, blocks: &[u8], errors: &[u32], worst: &mut 
 }
 
 // The line of one of the worst blocks.
-fn line_of(entry: Entry, columns: u64) -> TableLine
-    requires { 0 < columns }
-{
-    let number = u64::from(entry.number.0);
+fn line_of(entry: Entry, columns: NonZeroUsize) -> TableLine {
+    // Rust has no From<u32> for usize
+    let number = entry.number.0 as usize;
     TableLine {
         column: number % columns,
         row: number / columns,
-        mode: u64::from(entry.mode),
-        partition: u64::from(entry.partition),
-        error: u64::from(entry.error),
+        mode: entry.mode,
+        partition: entry.partition,
+        error: entry.error,
     }
 }
 
 // The lines of the worst blocks, the worst first.
-pub(crate) fn put_worst(rt: &impl Print, worst: &[Option<Entry>], columns: usize)
-    requires { 0 < columns }
-{
+pub(crate) fn put_worst(rt: &impl Print, worst: &[Option<Entry>], columns: NonZeroUsize) {
     let mut lines = Lines::new(rt);
     for entry in worst.iter().flatten() {
-        lines.put(line_of(*entry, columns as u64));
+        lines.put(line_of(*entry, columns));
     }
     lines.flush();
 }

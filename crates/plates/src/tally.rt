@@ -36,7 +36,7 @@ impl Tally {
 
     // The figures so far.
     pub fn figures(&self) -> Figures
-        ensures { Within result 4096 }
+        ensures { (result ≡ self.now.figures) × Within result 4096 }
     {
         self.figures
     }

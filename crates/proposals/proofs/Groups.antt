@@ -19,7 +19,7 @@ use Rattle.std.specs.Prelude.{Result, Ok, Err}
 use Rattle.std.specs.Result.{result_unwrap_or}
 use Rattle.refusals.specs.declared.Refusal.{Refusal}
 use Rattle.chooser.specs.Answers.{taken}
-use Rattle.chooser.proofs.Calls.{start-answer, offer_cases, held_kept}
+use Rattle.chooser.proofs.Calls.{start_answer, offer_cases, held_kept}
 use Rattle.proposals.specs.Offers.{offers}
 use Rattle.proposals.specs.BuiltIn.{proposals_of}
 use Rattle.proposals.specs.Baking.{chooser_for, baked}
@@ -29,7 +29,7 @@ pub baked-held : (px part : List ℕ) (s : Started) (ch : Chooser) → length pa
     ch ≡ after s.chooser (offers (proposals_of s.chooser.pixels)) → held ch part ≡ baked px
 unfolding baked
 baked-held px part s ch sixteen e f =
-    let over : (start_of px).chooser.pixels ≡ started_over px = ap (λ (s : Started). s.chooser.pixels) (start-answer px) in
+    let over : (start_of px).chooser.pixels ≡ started_over px = ap (λ (s : Started). s.chooser.pixels) (start_answer px) in
     let same : ch ≡ chooser_for px =
     f
     ∙ ap (λ (s : Started). after s.chooser (offers (proposals_of s.chooser.pixels))) e
@@ -57,7 +57,7 @@ after-length (c ∷ cs) ch h =
 pub baked-length : (px : List ℕ) → length (baked px).block ≡ 16
 unfolding baked
 baked-length px =
-    let empty : length (start_of px).chooser.block ≡ 16 = ap (λ (s : Started). length s.chooser.block) (start-answer px) in
+    let empty : length (start_of px).chooser.block ≡ 16 = ap (λ (s : Started). length s.chooser.block) (start_answer px) in
     rw (held_kept (chooser_for px) (replicate 16 0) refl) (after-length (proposals_of (started_over px)) (start_of px).chooser empty)
 
 -- the error that a take gives, 0 where it is declined

@@ -5,7 +5,7 @@ ghost use Rattle.proposals.specs.Baking.{baked, baked_blocks, baked_errors};
 use crate::built_in::built_in;
 use chooser::Chooser;
 
-// Bakes a group: its block into the lent part. Gives the block's error.
+// Bakes a group: its block into the lent part. Gives the block's error; a part of sixteen bytes is never declined.
 fn bake(pixels: &[u8], block: &mut [u8]) -> u32
     requires { length block.old ≡ 16 }
     ensures answer { result ≡ (baked pixels.now).error }
@@ -16,8 +16,9 @@ fn bake(pixels: &[u8], block: &mut [u8]) -> u32
     error.unwrap_or(0)
 }
 
-// Bakes groups one after the other. Requires 48 bytes of pixels and 16 bytes for the block of each error. The blocks are lent by their
-// places: a proof knows nothing of what is written through an iterator over parts.
+// Bakes groups one after the other. Requires 48 bytes of pixels and 16 bytes for the block of each error. Groups and blocks are taken by
+// their places: a proof knows nothing of what is written through `chunks_exact_mut`, nor through `iter_mut` under a `zip`.
+#[tactic(auto, using(lists::proofs::Rows::written_all), unfolding(crate::specs::Baking::baked_blocks, crate::specs::Baking::baked_errors, lists::specs::Rows::written, lists::specs::Parts::joined))]
 pub fn bake_row(groups: &[u8], blocks: &mut [u8], errors: &mut [u32])
     requires pixels { length groups.now ≡ 48 * length errors.old }
     requires parts { length blocks.old ≡ 16 * length errors.old }

@@ -24,6 +24,7 @@ fn stored<M: Mode>(c: Rgb) -> Rgb
 }
 
 // The proposal between the corners of the two subsets' boxes, with its p-bits free.
+#[tactic(auto, unfolding(crate::specs::BuiltIn::between))]
 fn proposal<M: Mode>(partition: u8, boxes: Boxes) -> Candidate
     ensures { result ≡ between M.mode.number partition boxes.first boxes.second }
 {
@@ -42,6 +43,7 @@ fn proposal<M: Mode>(partition: u8, boxes: Boxes) -> Candidate
 }
 
 // Offers a partition's proposals, mode 1 and then mode 3. Requires the planes of the chooser's pixels.
+#[tactic(auto, using(corners::proofs::Boxing::boxes_corners), unfolding(chooser::specs::Calls::after))]
 fn offer_both(ch: Chooser, planes: &Planes, partition: u8) -> Chooser
     requires { planes.now ≡ planes_of ch.pixels }
     ensures { result ≡ after ch (offers (both_of ch.pixels partition)) }
@@ -53,6 +55,7 @@ fn offer_both(ch: Chooser, planes: &Planes, partition: u8) -> Chooser
 }
 
 // Offers the built-in proposals.
+#[tactic(auto, using(crate::proofs::Offering::proposals_next), unfolding(chooser::specs::Calls::after, lists::specs::Parts::joined))]
 pub fn built_in(ch: Chooser) -> Chooser
     ensures { result ≡ after ch (offers (proposals_of ch.pixels)) }
 {

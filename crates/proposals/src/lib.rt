@@ -15,7 +15,9 @@ pub mod baking;
 pub mod built_in;
 pub mod records;
 
-// Offers the candidates of records in order, and writes the answer of each. Requires sixteen bytes of records for each answer.
+// Offers the candidates of records in order, and writes the answer of each. Requires sixteen bytes of records for each answer. A record is
+// taken by its place, and not by a `zip`: a proof knows nothing of what is written through `iter_mut` under one.
+#[tactic(auto, unfolding(crate::specs::Records::candidates_in, lists::specs::Rows::written, chooser::specs::Calls::after))]
 pub fn offer_records(ch: Chooser, records: &[u8], answers: &mut [Result<(), Refusal>]) -> Chooser
     requires { length records.now ≡ 16 * length answers.old }
     ensures answer { result ≡ after ch (offers (candidates_in records.now (length answers.old))) }

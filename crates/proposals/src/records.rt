@@ -1,9 +1,9 @@
-// Candidates as records of sixteen bytes.
+// Candidates as records of sixteen bytes. They are read by functions, since a `From` for another crate's type is no impl of this one.
 ghost use Rattle.std.specs.Prelude.{◌≡◌, ◌/◌, length};
-ghost use Rattle.bptc_block.specs.Fields.{p_bits_of};
 ghost use Rattle.proposals.specs.Records.{endpoint_in, endpoints_in, candidate_in, flags_good};
 
 use block::{Candidate, PBits, Rgb};
+use std::array;
 
 // The endpoint of three bytes.
 fn endpoint(bytes: &[u8]) -> Rgb
@@ -22,25 +22,11 @@ fn endpoints(bytes: &[u8]) -> [Rgb; 4]
     requires { length bytes.now ≡ 12 }
     ensures { result ≡ endpoints_in bytes.now }
 {
-    [
-        endpoint(&bytes[0..3]),
-        endpoint(&bytes[3..6]),
-        endpoint(&bytes[6..9]),
-        endpoint(&bytes[9..12]),
-    ]
+    array::from_fn(|k| endpoint(&bytes[k * 3..k * 3 + 3]))
 }
 
-// P-bits from their byte and the byte that says whether they are free, as a file of proposals has them.
-fn p_bits(p: u8, free: u8) -> PBits
-    ensures { result ≡ p_bits_of p free }
-{
-    match free {
-        0 => PBits::Fixed(p),
-        _ => PBits::Free,
-    }
-}
-
-// The candidate of sixteen bytes: mode, partition, endpoints, p-bits, and whether these are free.
+// The candidate of sixteen bytes: mode, partition, endpoints, p-bits, and 0 where these are fixed. The flag is a byte, as it is in a file.
+#[tactic(auto, unfolding(crate::specs::Records::candidate_in))]
 pub fn candidate(bytes: &[u8]) -> Candidate
     requires { length bytes.now ≡ 16 }
     ensures { result ≡ candidate_in bytes.now }
@@ -49,11 +35,15 @@ pub fn candidate(bytes: &[u8]) -> Candidate
         mode: bytes[0],
         partition: bytes[1],
         ends: endpoints(&bytes[2..14]),
-        p: p_bits(bytes[14], bytes[15]),
+        p: match bytes[15] {
+            0 => PBits::Fixed(bytes[14]),
+            _ => PBits::Free,
+        },
     }
 }
 
-// Whether the last byte of each record is 0 or 1.
+// Whether the last byte of each record is 0 or 1. A loop, since the proof by `all` did not close: what it says of a run of `chunks_exact` does
+// not lead to a test of each record.
 pub fn flags_good(records: &[u8]) -> bool
     ensures { result ≡ flags_good records.now (length records.now / 16) }
 {

@@ -1,17 +1,18 @@
-// The fields of a block, read by bit place, and numbers of four bytes.
+// The fields of a block, read by bit place.
 #![tactic(auto)]
 
-ghost use Rattle.std.specs.Prelude.{◌≡◌, ◌+◌, ◌*◌, ◌≤◌, ◌<◌, map, get_or, length, take, drop};
-ghost use Rattle.lists.specs.Rows.{up_from, sum};
+ghost use Rattle.std.specs.Prelude.{◌≡◌, ◌+◌, ◌*◌, ◌≤◌, ◌<◌, map, get_or, drop};
+ghost use Rattle.lists.specs.Rows.{up_from};
 ghost use Rattle.lists.specs.Bits.{field_at, split};
 ghost use Rattle.lists.specs.Bytes.{number};
+ghost use Rattle.bptc.specs.Partition.{anchor_of};
 ghost use Rattle.bptc_block.specs.Fields.{index_width_by, widths, end_from};
 ghost use Rattle.bptc_block.specs.Packed.{fields_of};
 
 use bptc::Rgb;
 use bptc_block::Fields;
 use palette::Mode;
-use partitions::anchor;
+use partitions::Partition;
 use std::array;
 
 // Byte k of a block, and 0 past its end.
@@ -21,32 +22,47 @@ fn byte(block: &[u8], k: usize) -> u8
     block.get(k).copied().unwrap_or(0)
 }
 
-// The number that four bytes make, the first lowest. Requires four of them.
-pub fn number(bytes: &[u8]) -> u32
-    requires { length bytes.now ≡ 4 }
-    ensures { result ≡ number bytes.now }
-{
-    u32::from_le_bytes([bytes[0], bytes[1], bytes[2], bytes[3]])
-}
-
 // The field of `width` bits that begins at bit `at` of a block.
 fn field(block: &[u8], at: u32, width: u32) -> u8
     requires inside { at ≤ 128 }
     requires few { width ≤ 8 }
     ensures { result ≡ field_at (number block.now) at width }
 {
+    // Rust has no `From` between u32 and usize
     let k = (at / 8) as usize;
     let two = u16::from_le_bytes([byte(block, k), byte(block, k + 1)]);
+    // narrows a value that the check proves to fit, where `try_from` would have a case that cannot come
     ((two >> (at % 8)) % (1 << width)) as u8
 }
 
-// The stored endpoint k, its channels of `bits` bits from bit `at` on: four reds, four greens, four blues.
-fn end_at(block: &[u8], at: u32, bits: u32, k: u32) -> Rgb
-    requires few { bits ≤ 7 }
-    requires four { k < 4 }
-    requires inside { at + 12 * bits ≤ 128 }
-    ensures { result ≡ end_from (number block.now) at bits k }
+// The bit at which the endpoints of a mode begin, after its number and the partition.
+fn ends_at<M: Mode>() -> u32
+    ensures { result ≡ M.mode.number + 7 }
 {
+    u32::from(M::NUMBER) + 7
+}
+
+// The bit at which the p-bits begin, after twelve channels.
+fn p_at<M: Mode>() -> u32
+    ensures { result ≡ M.mode.number + 7 + 12 * M.mode.channel_bits }
+{
+    ends_at::<M>() + 12 * M::CHANNEL_BITS
+}
+
+// The bit at which the indices begin.
+fn indices_at<M: Mode>() -> u32
+    ensures { result ≡ M.mode.number + 7 + 12 * M.mode.channel_bits + M.mode.p_bits }
+{
+    p_at::<M>() + M::P_BITS
+}
+
+// The stored endpoint k, from four reds, four greens and four blues.
+fn end_at<M: Mode>(block: &[u8], k: u32) -> Rgb
+    requires { k < 4 }
+    ensures { result ≡ end_from (number block.now) (M.mode.number + 7) M.mode.channel_bits k }
+{
+    let at = ends_at::<M>();
+    let bits = M::CHANNEL_BITS;
     Rgb {
         r: field(block, at + k * bits, bits),
         g: field(block, at + (4 + k) * bits, bits),
@@ -55,38 +71,34 @@ fn end_at(block: &[u8], at: u32, bits: u32, k: u32) -> Rgb
 }
 
 // The four stored endpoints.
-fn ends_from(block: &[u8], at: u32, bits: u32) -> [Rgb; 4]
-    requires few { bits ≤ 7 }
-    requires inside { at + 12 * bits ≤ 128 }
-    ensures { result ≡ map (end_from (number block.now) at bits) (up_from 0 4) }
+fn ends<M: Mode>(block: &[u8]) -> [Rgb; 4]
+    ensures { result ≡ map (end_from (number block.now) (M.mode.number + 7) M.mode.channel_bits) (up_from 0 4) }
 {
-    array::from_fn(|k| end_at(block, at, bits, k as u32))
+    // Rust has no `From` between usize and u32
+    array::from_fn(|k| end_at::<M>(block, k as u32))
 }
 
 // The width of the index of pixel i.
-fn index_width(bits: u32, anchor: usize, i: usize) -> u32
-    requires some { 0 < bits }
-    ensures { (result ≡ index_width_by bits anchor i) × (result ≤ bits) }
+fn index_width<M: Mode>(partition: Partition, i: usize) -> u32
+    ensures { (result ≡ index_width_by M.mode.index_bits (anchor_of partition.number) i) × (result ≤ 3) }
 {
+    let anchor = partition.anchor();
     if i == 0 || i == anchor {
-        bits - 1
+        M::INDEX_BITS - 1
     } else {
-        bits
+        M::INDEX_BITS
     }
 }
 
-// The sixteen indices, from bit `at` on.
-fn indices<M: Mode>(block: &[u8], at: u32, partition: u8) -> [u8; 16]
-    requires inside { partition < 64 }
-    requires place { at ≡ sum (take 15 (widths M.mode partition)) }
-    ensures { result ≡ drop 15 (split (widths M.mode partition) (number block.now)) }
+// The sixteen indices.
+fn indices<M: Mode>(block: &[u8], partition: Partition) -> [u8; 16]
+    ensures { result ≡ drop 15 (split (widths M.mode partition.number) (number block.now)) }
 {
-    let place = anchor(usize::from(partition));
     let mut out = [0; 16];
-    let mut next = at;
-    for i in 0..16 {
-        let width = index_width(M::INDEX_BITS, place, i);
-        out[i] = field(block, next, width);
+    let mut next = indices_at::<M>();
+    for (i, index) in out.iter_mut().enumerate() {
+        let width = index_width::<M>(partition, i);
+        *index = field(block, next, width);
         next += width;
     }
     out
@@ -96,17 +108,13 @@ fn indices<M: Mode>(block: &[u8], at: u32, partition: u8) -> [u8; 16]
 pub fn fields<M: Mode>(block: &[u8]) -> Fields
     ensures { result ≡ fields_of M.mode block.now }
 {
-    let bits = M::CHANNEL_BITS;
-    let at = u32::from(M::NUMBER) + 7;
-    let partition = field(block, at - 6, 6);
-    let ends = ends_from(block, at, bits);
-    let p_at = at + 12 * bits;
-    let p = field(block, p_at, M::P_BITS);
-    let indices = indices::<M>(block, p_at + M::P_BITS, partition);
+    let partition = Partition {
+        number: field(block, ends_at::<M>() - 6, 6),
+    };
     Fields {
-        partition,
-        ends,
-        p,
-        indices,
+        partition: partition.number,
+        ends: ends::<M>(block),
+        p: field(block, p_at::<M>(), M::P_BITS),
+        indices: indices::<M>(block, partition),
     }
 }

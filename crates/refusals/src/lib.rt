@@ -1,8 +1,9 @@
 // Why a call declines what it is handed.
 #![tactic(auto)]
 
-ghost use Rattle.std.specs.Prelude.{◌≡◌};
+ghost use Rattle.std.specs.Prelude.{◌≡◌, Some};
 ghost use Rattle.refusals.specs.Numbers.{number_of, declined};
+ghost use Rattle.refusals.specs.Texts.{refusal_text};
 
 use std::error::Error;
 use std::fmt;
@@ -22,7 +23,7 @@ pub enum Refusal {
 }
 
 impl Refusal {
-    // Its number, from 1 on.
+    // Its number, from 1 on: the name says which number it is, as a `From` would not.
     pub fn number(self) -> u8
         ensures { result ≡ number_of self }
     {
@@ -40,7 +41,7 @@ impl Refusal {
     }
 }
 
-// The number of an answer: 0 where nothing is declined.
+// The number of an answer, 0 where nothing is declined, for C and for what is printed.
 pub fn number(answer: Result<(), Refusal>) -> u8
     ensures { result ≡ declined answer }
 {
@@ -50,7 +51,10 @@ pub fn number(answer: Result<(), Refusal>) -> u8
     }
 }
 
+// The number, and what is wrong, in whole texts as they are printed.
 impl fmt::Display for Refusal {
+    ghost output = { λ refusal. Some (refusal_text refusal) };
+
     fn fmt<W: fmt::Write>(&self, f: &mut fmt::Formatter<W>) -> fmt::Result {
         f.write_str(match self {
             Refusal::PixelPart => "1, the pixel part is not 48 bytes long",

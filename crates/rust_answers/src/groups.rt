@@ -10,8 +10,8 @@ use block::Candidate;
 use chooser::Chooser;
 use files::fill;
 use proposals::records::candidate;
+use std::io;
 use std::io::Read;
-use std::{array, io};
 
 // The bytes of a group.
 const GROUP: usize = 1028;
@@ -83,7 +83,7 @@ fn replay_group(group: &[u8; GROUP], tally: &mut Tally) {
 }
 
 // Replays groups until the input ends, and gives how many bytes stand behind the last whole group. Nothing says that the input ends,
-// so the turns are counted down from a number that no run uses up.
+// so the turns are counted, up to a number that no run reaches.
 pub(crate) fn replay(input: &mut impl Read, tally: &mut Tally) -> io::Result<usize>
     ensures { IfOk result (λ rest. rest < 1028) }
 {

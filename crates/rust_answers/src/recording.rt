@@ -4,7 +4,7 @@ ghost use Rattle.rust_answers.specs.Recording.{index_in, indices_in};
 
 use std::array;
 
-// N bytes from one place on.
+// N bytes from one place on. By their places, as `first_chunk` would give a case that cannot come.
 pub(crate) fn part<const N: usize>(bytes: &[u8], at: usize) -> [u8; N]
     requires { at + N ≤ length bytes.now }
 {

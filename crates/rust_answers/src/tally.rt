@@ -32,7 +32,7 @@ impl fmt::Display for Count {
     }
 }
 
-// Which cells were seen.
+// Which cells were seen, in one list, as they are only counted.
 #[derive(Clone, Copy, Default)]
 pub(crate) struct Cells([bool; CELLS]);
 

@@ -1,7 +1,7 @@
 // The search: the keys of each of sixteen pixels with the colours of its own subset's row, in four columns.
 #![tactic(auto)]
 
-ghost use Rattle.std.specs.Prelude.{◌≡◌, ℕ, ◌+◌, ◌*◌, ◌≤◌, List, map, get_or, length, refl};
+ghost use Rattle.std.specs.Prelude.{◌≡◌, ℕ, ◌+◌, ◌*◌, ◌≤◌, List, map, get_or, refl};
 ghost use Rattle.std.proofs.Common.{rules};
 ghost use Rattle.lists.specs.Rows.{up_from};
 ghost use Rattle.keys.specs.Keys.{key_at, pixel_key, least_of4, Steps};
@@ -27,7 +27,7 @@ pub trait Layout {
     // The columns, by the key at each index.
     ghost columns: { (ℕ → ℕ) → List ℕ };
 
-    // The columns of a pixel with the colours from a place on. Requires numbers in range.
+    // The columns of a pixel with the colours from a place on, no further than a row. Requires numbers in range.
     fn columns(p: Rgb, at: usize, numbers: &[u32]) -> [u32; 4]
         requires inside { at ≤ WIDTH }
         requires steps { Steps (WIDTH * 2) numbers.now }
@@ -44,7 +44,7 @@ pub trait Search: Mode + Layout {
     ghost least: { (key : ℕ → ℕ) → Least key (largest Self.mode) (least_of4 (λ c. get_or (Self.columns key) c 0)) };
 }
 
-// Eight colours: the lesser of two keys in each column.
+// Eight colours: the lesser of two keys in each column, the columns by name, as a closure over their places says no more.
 impl Layout for Mode1 {
     const WIDTH: usize = 8;
 
@@ -94,14 +94,16 @@ impl Search for Mode3 {
     ghost least = { least_columns1 };
 }
 
-// The columns of each pixel, by a mask of the pixels' subsets. Requires sixteen pixels, and numbers in range.
-pub fn block_columns<M: Layout>(px: &[u8], mask: u32, numbers: &[u32]) -> [[u32; 4]; 16]
-    requires sixteen { length px.now ≡ 48 }
+// The columns of each pixel, by a mask of the pixels' subsets, which is any, not a partition's alone. Requires numbers in range. The loop
+// has an index, the pixel's number, by which its bit of the mask and its bytes are found.
+#[tactic(auto, using(lists::proofs::Rows::written_all), unfolding(lists::specs::Rows::written))]
+pub fn block_columns<M: Layout>(px: &[u8; 48], mask: u32, numbers: &[u32]) -> [[u32; 4]; 16]
     requires steps { Steps (M.WIDTH * 2) numbers.now }
     ensures { result ≡ map (λ i. M.columns (pixel_key (M.WIDTH * 2) M.WIDTH numbers.now px.now mask i)) (up_from 0 16) }
 {
     let mut out = [[0u32; 4]; 16];
     for i in 0..16 {
+        // Rust has no `From` between the two
         let at = ((mask >> i) % 2) as usize * M::WIDTH;
         out[i] = M::columns(pixel_at(px, i), at, numbers);
     }

@@ -1,16 +1,14 @@
 -- Laws of a number's decimal text: it is what std's `Display` writes, it is all digits, and it stands for the number.
 use Prim.Native.Nat.{ℕ, suc, ◌+◌, ◌^◌, ◌<◌, ◌≤◌}
-use native.Mathlib.Numerals.{one-add}
 use native.Mathlib.Omega.{arith}
 use mathlib.Core.Path.{◌≡◌, refl, sym}
 use mathlib.Core.Bool.{Bool, true, false}
-use mathlib.Core.List.{List, [], ◌∷◌}
+use mathlib.Core.List.{List, ◌∷◌}
 use lib.Dec.{leb, ltb, eqb}
-use lib.ListN.{length, take}
+use lib.ListN.{length}
 use borrow.Author.Rules.{rules}
 use borrow.Author.Tests.{leb-true, le-leb, lt-ltb, le-ltb, eq-eqb, ne_eqb}
 use Rattle.std.specs.Prelude.{Option, Some, None, Result, Ok, Err, if◌then◌else◌, ◌&&◌}
-use Rattle.std.specs.Char.{is_ascii_digit}
 use Rattle.std.specs.Int.{IsInRange}
 use Rattle.std.specs.Fmt.{decimal}
 use Rattle.std.specs.Result.{OkIff, result_ok}
@@ -118,16 +116,6 @@ module _ (text : List ℕ) where
               let small : value_from 0 text < 10 ^ 18 = digits_value_short numerals text 18 all few in
               let none : 0 < length text → ⊥ = λ h. p (h, omega arith) in
               sym (number_none (omega arith))
-
--- the digits at the front of a text are all digits
-pub digits_alone : (text : List ℕ) → AllDigits (take (digits_in text) text)
-digits_alone [] = refl
-digits_alone (b ∷ bs) = go (is_ascii_digit b) refl (digits_alone bs)
-  where
-    go : (t : Bool) → is_ascii_digit b ≡ t → AllDigits (take (digits_in bs) bs) →
-        AllDigits (take (if t then 1 + digits_in bs else 0) (b ∷ bs))
-    go true d ih = rw (one-add, d, ih) (omega arith)
-    go false d ih = refl
 
 -- the number that is read from the decimal text of n is n
 pub number-decimal : (n : ℕ) → n < 10 ^ 18 → number_in (decimal_of n) ≡ Some n

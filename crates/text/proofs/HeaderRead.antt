@@ -12,11 +12,13 @@ use Rattle.std.specs.Prelude.{Some, Ok}
 use Rattle.std.specs.Char.{is_ascii_digit}
 use Rattle.std.proofs.lemmas.List.Folds.{prefix_len-append}
 use Rattle.std.proofs.lemmas.Str.Parse.{digit_at}
+use Rattle.text.specs.declared.ppm.HeaderError.{HeaderError}
+use Rattle.text.specs.declared.ppm.HeaderError.TheVariants.{NoWidth, NoHeight, NoMaxval, WidthOutside, HeightOutside, OtherMaxval}
 use Rattle.text.specs.Line.{decimal_of}
 use Rattle.text.specs.Decimal.{digits_in}
-use Rattle.text.specs.Ppm.{in_gap, in_comment, gap_in, small_value, field_in, size_fits}
+use Rattle.text.specs.Ppm.{in_gap, in_comment, gap_in, small_number, field_in, size_fits}
 use Rattle.text.specs.Ppm.{starts_p6, size_in, pixels_in, header_of, header_text}
-use Rattle.text.proofs.DecimalText.{AllDigits, numerals, decimal_digits, decimal-some, decimal-length, decimal-value}
+use Rattle.text.proofs.DecimalText.{AllDigits, numerals, decimal_digits, decimal-some, decimal-length, number-decimal}
 
 -- a digit ends a gap
 digit_stops : (b : ℕ) → 48 ≤ b → in_gap false b ≡ false
@@ -33,11 +35,11 @@ gap_digits [] rest e h = absurd (omega arith)
 gap_digits (x ∷ xs) rest e h = rw (digit_stops x (digit_at (x ∷ xs) 0 (numerals.to (x ∷ xs) e) h).0)
 
 -- a number of at most nine digits is read from its text
-small_decimal : (n : ℕ) → n < 10 ^ 9 → small_value (decimal_of n) ≡ n
-unfolding small_value
+small_decimal : (n : ℕ) → n < 10 ^ 9 → small_number (decimal_of n) ≡ Some n
+unfolding small_number
 small_decimal n h =
     let small : n < 2 ^ 64 = omega arith in
-    rw (le-ltb 9 (length (decimal_of n)) (decimal-length n small 9 (omega arith) h), decimal-value n small)
+    rw (le-ltb 9 (length (decimal_of n)) (decimal-length n small 9 (omega arith) h)) (number-decimal n (omega arith))
 
 -- a number behind one white space and before a byte that is no digit
 module _ (rest : List ℕ) (s n e : ℕ)
@@ -56,10 +58,10 @@ module _ (rest : List ℕ) (s n e : ℕ)
       rw (prefix_len-append is_ascii_digit (decimal_of n) (e ∷ rest), eq-eqb _ _ (decimal_digits n fits), other) (omega arith)
 
   -- it is the number that is read there
-  field-decimal : (bytes : List ℕ) → bytes ≡ s ∷ (decimal_of n ++ (e ∷ rest)) →
-      field_in bytes ≡ Some (record { value = n; len = length (s ∷ decimal_of n) })
+  field-decimal : (bytes : List ℕ) (missing outside : HeaderError) → bytes ≡ s ∷ (decimal_of n ++ (e ∷ rest)) →
+      field_in bytes missing outside ≡ Ok (record { value = n; len = length (s ∷ decimal_of n) })
   unfolding field_in
-  field-decimal bytes same =
+  field-decimal bytes missing outside same =
       rw (
         same,
         gap_one,
@@ -128,12 +130,12 @@ header_read w h rest wide narrow high low =
     let named : starts_p6 bytes ≡ true = rw (by_width w h rest) in
     let to_h : 2 + length (10 ∷ decimal_of w) ≡ length (to_height w) = omega arith in
     let to_m : length (to_height w) + length (32 ∷ decimal_of h) ≡ length (to_maxval w h) = sym (length-append (to_height w) (32 ∷ decimal_of h)) in
-    let first = field-decimal _ 10 w 32 refl refl refl (omega arith) (drop 2 bytes) (ap (drop 2) (by_width w h rest)) in
-    let second = field-decimal _ 32 h 10 refl refl refl (omega arith) (drop (length (to_height w)) bytes)
+    let first = field-decimal _ 10 w 32 refl refl refl (omega arith) (drop 2 bytes) NoWidth WidthOutside (ap (drop 2) (by_width w h rest)) in
+    let second = field-decimal _ 32 h 10 refl refl refl (omega arith) (drop (length (to_height w)) bytes) NoHeight HeightOutside
     (ap (drop (length (to_height w))) (by_height w h rest) ∙ drop-append_seam (to_height w) _) in
     let behind : drop (length (to_maxval w h)) bytes ≡ 10 ∷ (decimal_of 255 ++ (10 ∷ rest)) =
     rw (by_maxval w h rest) (drop-append_seam (to_maxval w h) _) in
-    let third = field-decimal rest 10 255 10 refl refl refl (omega arith) (drop (length (to_maxval w h)) bytes) behind in
+    let third = field-decimal rest 10 255 10 refl refl refl (omega arith) (drop (length (to_maxval w h)) bytes) NoMaxval OtherMaxval behind in
     let last : get_or (drop (length (to_maxval w h)) bytes) (length (10 ∷ decimal_of 255)) 0 ≡ 10 =
     rw behind (get_or-append_seam (10 ∷ decimal_of 255) 10 rest 0) in
     let all : length (to_maxval w h) + (length (10 ∷ decimal_of 255) + 1) ≡ length (header_text w h) =

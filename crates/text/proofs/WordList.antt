@@ -3,22 +3,23 @@ use Prim.Native.Nat.{ℕ, zero, suc, ◌+◌, ◌-◌, ◌<◌, ◌≤◌}
 use native.Mathlib.Numerals.{add-one, one-add}
 use native.Mathlib.Omega.{arith}
 use mathlib.Core.Path.{◌≡◌, refl, ap}
-use mathlib.Core.Bool.{Bool, true, false}
+use mathlib.Core.Bool.{Bool, true, false, cond}
 use mathlib.Core.List.{List, [], ◌∷◌}
 use lib.Dec.{eqb, leb, leb-suc-zero, leb-suc-suc}
 use lib.ListN.{length, take, drop, length-drop}
 use lib.Seq.{take_all}
 use borrow.Author.Tests.{le-leb}
-use Rattle.std.specs.Prelude.{not, if◌then◌else◌}
+use Rattle.std.specs.Prelude.{not, if◌then◌else◌, nat_lt, position, Some, None}
 use Rattle.std.specs.List.{prefix_len, slice_get}
+use Rattle.std.proofs.lemmas.Bool.Decides.{nat_tests}
 use Rattle.std.specs.Option.{unwrap_or}
 use Rattle.lists.specs.Tests.{pick}
 use Rattle.text.specs.Words.{words_in, in_word, first_word, word_from, word_of, lengthen, words_of}
 
 -- a line without a 0 byte has no word
-pub words_none : (line : List ℕ) → length line ≤ prefix_len in_word line → words_of line ≡ []
-words_none [] h = refl
-words_none (b ∷ bs) h = go (eqb b 0) h (words_none bs)
+none_left : (line : List ℕ) → length line ≤ prefix_len in_word line → words_of line ≡ []
+none_left [] h = refl
+none_left (b ∷ bs) h = go (eqb b 0) h (none_left bs)
   where
     go : (t : Bool) → suc (length bs) ≤ (if not t then 1 + prefix_len in_word bs else 0) →
         (length bs ≤ prefix_len in_word bs → words_of bs ≡ []) →
@@ -40,17 +41,35 @@ first_word_of (b ∷ bs) h = go (eqb b 0) h (first_word_of bs)
     go true l ih = refl
     go false l ih = rw (ih (omega arith), one-add, add-one, add-one)
 
--- the same for a part of a line that starts behind the word's 0 byte and ends with the line
-pub words_first : (line : List ℕ) (n : ℕ) → n ≡ prefix_len in_word line → n < length line →
+-- as the place of the first 0 byte tells it
+pub words_none : (line : List ℕ) → position (λ b. eqb b 0) line ≡ None → words_of line ≡ []
+words_none line e = go (nat_lt (prefix_len in_word line) (length line)) refl e
+  where
+    go : (t : Bool) → nat_lt (prefix_len in_word line) (length line) ≡ t → cond t (Some (prefix_len in_word line)) None ≡ None → words_of line ≡ []
+    go true h l = cc
+    go false h l = none_left line (grind (arith, nat_tests))
+
+-- that place is the length of the first word
+word_ends : (line : List ℕ) (n : ℕ) → position (λ b. eqb b 0) line ≡ Some n → (n ≡ prefix_len in_word line) × (n < length line)
+word_ends line n e = go (nat_lt (prefix_len in_word line) (length line)) refl e
+  where
+    go : (t : Bool) → nat_lt (prefix_len in_word line) (length line) ≡ t → cond t (Some (prefix_len in_word line)) None ≡ Some n →
+        (n ≡ prefix_len in_word line) × (n < length line)
+    go true h l = let same : n ≡ prefix_len in_word line = cc in (same, grind (arith, nat_tests))
+    go false h l = cc
+
+-- the words of a part of a line that starts behind the word's 0 byte and ends with the line
+pub words_first : (line : List ℕ) (n : ℕ) → position (λ b. eqb b 0) line ≡ Some n →
     words_of line ≡ take n line ∷ words_of (take (length line - (n + 1)) (drop (n + 1) line))
-words_first line n e h =
+words_first line n e =
+    let ends = word_ends line n e in
     let rest : length (drop (n + 1) line) ≤ length line - (n + 1) = omega (arith, length-drop (n + 1) line) in
-    rw (take_all (length line - (n + 1)) (drop (n + 1) line) rest, e) (first_word_of line (omega arith))
+    rw (take_all (length line - (n + 1)) (drop (n + 1) line) rest, ends.0) (first_word_of line (omega (arith, ends.0, ends.1)))
 
 -- they are fewer
-pub words_fewer : (line : List ℕ) (n : ℕ) → n ≡ prefix_len in_word line → n < length line →
+pub words_fewer : (line : List ℕ) (n : ℕ) → position (λ b. eqb b 0) line ≡ Some n →
     length (words_of (take (length line - (n + 1)) (drop (n + 1) line))) < length (words_of line)
-words_fewer line n e h = rw (words_first line n e h) (omega arith)
+words_fewer line n e = rw (words_first line n e) (omega arith)
 
 -- their number is that of the 0 bytes
 pub words_counted : (line : List ℕ) → length (words_of line) ≡ words_in line

@@ -3,13 +3,15 @@ use mathlib.Core.Path.{refl}
 use Rattle.text.specs.Line.{decimal_of, thousandths_of}
 use Rattle.text.specs.Decimal.{value_of, number_in}
 use Rattle.text.specs.Words.{word_of}
-use Rattle.text.specs.Ppm.{small_value, field_in, size_in, pixels_in, header_of, header_text}
+use Rattle.text.specs.Ppm.{small_number, field_in, size_in, pixels_in, header_of, header_text}
 use Rattle.text.specs.Worked.{Worked}
 
 -- by computing every definition
 pub worked : Worked
-unfolding decimal_of thousandths_of value_of number_in word_of small_value field_in size_in pixels_in header_of header_text
+unfolding decimal_of thousandths_of value_of number_in word_of small_number field_in size_in pixels_in header_of header_text
 worked = record {
+  put = refl;
+  not_put = refl;
   written = refl;
   zero_written = refl;
   whole_and_places = refl;

@@ -6,7 +6,7 @@ use Rattle.text.specs.declared.ppm.HeaderError.{HeaderError}
 use Rattle.text.specs.declared.ppm.HeaderError.TheVariants.{NoName, NoWidth, NoHeight, NoMaxval, WidthOutside, HeightOutside, OtherMaxval, NoPixels}
 use Rattle.text.specs.declared.ppm.Field.{Field}
 use Rattle.text.specs.Line.{decimal_of}
-use Rattle.text.specs.Decimal.{digits_in, value_of}
+use Rattle.text.specs.Decimal.{digits_in, number_in}
 
 -- whether a byte is white space: a space, or one of the codes 9 to 13
 abbrev pub is_space : ℕ → Bool
@@ -27,51 +27,50 @@ abbrev pub gap_in : Bool → List ℕ → ℕ
 gap_in comment [] = 0
 gap_in comment (b ∷ bs) = pick (in_gap comment b) (suc (gap_in (in_comment comment b) bs)) 0
 
--- the number of at most nine digits, and 0 for more, which no size and no maxval is
-unfoldable pub small_value : List ℕ → ℕ
-small_value text = pick (ltb 9 (length text)) 0 (value_of text)
+-- what comes of a part of the header that is right; a mistake stays
+abbrev pub and_then : {A B : Type 0} → Result A HeaderError → (A → Result B HeaderError) → Result B HeaderError
+and_then (Ok x) f = f x
+and_then (Err e) f = Err e
 
--- a number of a header by its gap and how many digits stand behind that: none where it lacks either
-abbrev pub field_of : List ℕ → ℕ → ℕ → Option Field
-field_of bs gap count =
-    pick (ltb 0 gap) (pick (ltb 0 count) (Some (record { value = small_value (take count (drop gap bs)); len = gap + count })) None) None
+-- the number of one to nine digits, the most that a number of a header may have
+unfoldable pub small_number : List ℕ → Option ℕ
+small_number text = pick (ltb 9 (length text)) None (number_in text)
+
+-- a number of a header and how many bytes it takes, or the mistake of a number that has more than nine digits
+abbrev pub field_of : Option ℕ → ℕ → HeaderError → Result Field HeaderError
+field_of None len outside = Err outside
+field_of (Some n) len outside = Ok (record { value = n; len = len })
+
+-- the number behind a gap by how many digits stand there: it is missing where it lacks either
+abbrev pub field_behind : List ℕ → ℕ → ℕ → HeaderError → HeaderError → Result Field HeaderError
+field_behind bs gap count missing outside =
+    pick (ltb 0 gap) (pick (ltb 0 count) (field_of (small_number (take count (drop gap bs))) (gap + count) outside) (Err missing)) (Err missing)
 
 -- the number at the front, with its gap
-unfoldable pub field_in : List ℕ → Option Field
-field_in bs = field_of bs (gap_in false bs) (digits_in (drop (gap_in false bs) bs))
+unfoldable pub field_in : List ℕ → HeaderError → HeaderError → Result Field HeaderError
+field_in bs missing outside = field_behind bs (gap_in false bs) (digits_in (drop (gap_in false bs) bs)) missing outside
 
 -- whether a width or a height is 1 to 16384
 abbrev pub size_fits : ℕ → Bool
 size_fits n = pick (ltb n 1) false (leb n 16384)
 
--- a width or a height, or its mistake: that it is missing, or that it is not 1 to 16384
-abbrev pub size_of : Option Field → HeaderError → HeaderError → Result Field HeaderError
-size_of None missing outside = Err missing
-size_of (Some f) missing outside = pick (size_fits f.value) (Ok f) (Err outside)
-
--- the one at the front
+-- the width or the height at the front, or its mistake: that it is missing, or that it is not 1 to 16384
 unfoldable pub size_in : List ℕ → HeaderError → HeaderError → Result Field HeaderError
-size_in bs missing outside = size_of (field_in bs) missing outside
+size_in bs missing outside =
+    and_then (field_in bs missing outside) (λ size. pick (size_fits size.value) (Ok size) (Err outside))
 
 -- how many bytes stand before the pixels, the maxval and one white space, or the mistake of the maxval: that it is missing, that it is not
 -- 255, or that no white space is behind it
-abbrev pub pixels_of : List ℕ → Option Field → Result ℕ HeaderError
-pixels_of bs None = Err NoMaxval
-pixels_of bs (Some f) =
-    pick (eqb f.value 255) (pick (is_space (get_or bs f.len 0)) (Ok (f.len + 1)) (Err NoPixels)) (Err OtherMaxval)
-
--- those at the front
 unfoldable pub pixels_in : List ℕ → Result ℕ HeaderError
-pixels_in bs = pixels_of bs (field_in bs)
+pixels_in bs =
+    and_then (field_in bs NoMaxval OtherMaxval) (λ maxval.
+    pick (eqb maxval.value 255)
+    (pick (is_space (get_or bs maxval.len 0)) (Ok (maxval.len + 1)) (Err NoPixels))
+    (Err OtherMaxval))
 
 -- whether the bytes begin with P6
 abbrev pub starts_p6 : List ℕ → Bool
 starts_p6 bs = pick (eqb (get_or bs 0 0) 80) (eqb (get_or bs 1 0) 54) false
-
--- what comes of a part of the header that is right; a mistake stays
-abbrev pub and_then : {A B : Type 0} → Result A HeaderError → (A → Result B HeaderError) → Result B HeaderError
-and_then (Ok x) f = f x
-and_then (Err e) f = Err e
 
 -- the header at the start of a file's bytes, or its first mistake: P6, and then width, height and maxval, each behind the one before
 unfoldable pub header_of : List ℕ → Result Header HeaderError

@@ -1,13 +1,17 @@
 -- Rows worked by hand, in plain bytes.
 use Rattle.std.specs.Prelude.{◌≡◌, [], ◌∷◌, None, Some, Ok, Err}
 use Rattle.text.specs.declared.ppm.HeaderError.TheVariants.{NoPixels}
-use Rattle.text.specs.Line.{decimal_of, thousandths_of}
+use Rattle.text.specs.Line.{with_text, decimal_of, thousandths_of}
 use Rattle.text.specs.Decimal.{number_in}
 use Rattle.text.specs.Words.{word_of}
 use Rattle.text.specs.Ppm.{header_of, header_text}
 
 -- what each definition gives
 pub record Worked : Type 0 where
+  -- "to" behind "be" in a line with room for four bytes
+  pub put : with_text 4 (98 ∷ 101 ∷ []) (116 ∷ 111 ∷ []) ≡ 98 ∷ 101 ∷ 116 ∷ 111 ∷ []
+  -- and in one with room for three
+  pub not_put : with_text 3 (98 ∷ 101 ∷ []) (116 ∷ 111 ∷ []) ≡ 98 ∷ 101 ∷ []
   -- 120 is "120"
   pub written : decimal_of 120 ≡ 49 ∷ 50 ∷ 48 ∷ []
   -- 0 is "0"

@@ -2,24 +2,22 @@
 ghost use Rattle.std.specs.Prelude.{◌≡◌, ◌+◌, ◌≤◌, ◌↔◌, [], ◌++◌, length, IsOk, OnErr, Some};
 ghost use Rattle.text.specs.Line.{with_text, decimal_of, thousandths_of};
 
+use arrayvec::ArrayVec;
 use std::fmt;
 use std::marker::Model;
 
 // Text of at most N bytes. It need not be UTF-8, since a path need not.
 #[derive(Drop)]
 pub struct Line<const N: usize> {
-    bytes: [u8; N],
-    len: usize,
+    bytes: ArrayVec<u8, N>,
 }
 
 impl<const N: usize> Model for Line<N> {
-    ghost use Rattle.std.specs.Prelude.{ℕ, ◌≤◌, List, take};
+    ghost use Rattle.std.specs.Prelude.{ℕ, List};
 
     ghost Value = { List ℕ };
 
-    ghost view = { λ line. take line.len line.bytes };
-
-    ghost invariant = { λ line. line.len ≤ N };
+    ghost view = { λ line. line.bytes.items };
 }
 
 impl<const N: usize> Line<N> {
@@ -28,8 +26,7 @@ impl<const N: usize> Line<N> {
         ensures { result ≡ [] }
     {
         Line {
-            bytes: [0; N],
-            len: 0,
+            bytes: ArrayVec::new(),
         }
     }
 
@@ -37,13 +34,7 @@ impl<const N: usize> Line<N> {
     pub fn put(&mut self, text: &[u8])
         ensures { self.new ≡ with_text N self.old text.now }
     {
-        let at = self.len;
-        if text.len() <= N - at {
-            let end = at + text.len();
-            let bytes = &mut self.bytes[..];
-            bytes[at..end].copy_from_slice(text);
-            self.len = end;
-        }
+        let _ = self.bytes.try_extend_from_slice(text);
     }
 
     // Puts the decimal digits of a number, as `put` does.
@@ -59,14 +50,14 @@ impl<const N: usize> Line<N> {
         ensures value { result.now ≡ self.now }
         ensures fits { length result.now ≤ N }
     {
-        &self.bytes[..self.len]
+        self.bytes.as_slice()
     }
 
     // Makes the line empty.
     pub fn clear(&mut self)
         ensures { self.new ≡ [] }
     {
-        self.len = 0;
+        self.bytes.clear();
     }
 }
 
@@ -78,11 +69,9 @@ impl<const N: usize> fmt::Write for Line<N> {
         ensures fits { IsOk result ↔ (length self.old + length s.now ≤ N) }
         ensures err { OnErr result (self.new ≡ self.old) }
     {
-        if s.len() > N - self.len {
-            return Err(fmt::Error);
-        }
-        self.put(s.as_bytes());
-        Ok(())
+        self.bytes
+            .try_extend_from_slice(s.as_bytes())
+            .map_err(|_| fmt::Error)
     }
 }
 
@@ -103,7 +92,7 @@ impl<const N: usize> fmt::Display for Line<N> {
 pub struct Thousandths(pub u64);
 
 impl Thousandths {
-    // The number as text.
+    // The number as text. The places are put one by one, since a `write!` with `{:03}` can fail and this cannot.
     #[tactic(auto, using(crate::proofs::PiecesText::thousandths_put))]
     pub fn text(self) -> Line<24>
         ensures { result ≡ thousandths_of self.0 }

@@ -1,7 +1,6 @@
 // The header of a binary PPM picture, Netpbm's P6.
-ghost use Rattle.std.specs.Prelude.{◌≡◌, ◌≤◌, false, length, IfOk, IfSome, IsTrue, Some};
-ghost use Rattle.text.specs.Decimal.{digits_in};
-ghost use Rattle.text.specs.Ppm.{is_space, in_gap, in_comment, gap_in, small_value, field_in, size_fits};
+ghost use Rattle.std.specs.Prelude.{◌≡◌, ◌≤◌, false, length, IfOk, IsTrue, Some};
+ghost use Rattle.text.specs.Ppm.{is_space, in_gap, in_comment, gap_in, small_number, field_in, size_fits};
 ghost use Rattle.text.specs.Ppm.{mistake_text, size_in, pixels_in, starts_p6, header_of, Sized, header_text};
 
 use crate::decimal::{digits_in, number};
@@ -54,14 +53,15 @@ impl fmt::Display for HeaderError {
 
 impl Error for HeaderError {}
 
-// A number of a header: its value, 0 where it has more than nine digits, and how many bytes it takes with the white space before it.
+// A number of a header, and how many bytes it takes with the white space before it. That there are as many stands in the contracts of those
+// who read it, since a field does not hold the bytes.
 #[derive(Clone, Copy)]
 pub(crate) struct Field {
     pub value: usize,
     pub len: usize,
 }
 
-// Whether a byte is white space.
+// Whether a byte is white space: Netpbm's has the vertical tab, 11, which `is_ascii_whitespace` leaves out.
 fn is_space(b: u8) -> bool
     ensures { result ≡ is_space b }
 {
@@ -86,7 +86,8 @@ fn in_comment(comment: bool, b: u8) -> bool
     }
 }
 
-// How many bytes of white space and comments stand at the front.
+// How many bytes of white space and comments stand at the front. Whether a byte is one of them depends on those before it, so no test of one
+// byte can count them by `take_while`.
 fn gap_in(bytes: &[u8]) -> usize
     ensures count { result ≡ gap_in false bytes.now }
     ensures inside { result ≤ length bytes.now }
@@ -101,36 +102,35 @@ fn gap_in(bytes: &[u8]) -> usize
     bytes.len()
 }
 
-// The number of at most nine digits, and 0 for more; cast, since Rust has no `From` between `u64` and `usize`.
-#[tactic(auto, using(crate::proofs::SmallValue::small_long, crate::proofs::SmallValue::small_number))]
-fn small_value(digits: &[u8]) -> usize
-    requires { digits_in digits.now ≡ length digits.now }
-    ensures { result ≡ small_value digits.now }
+// The number of one to nine digits, the most that one of a header may have; cast, since Rust has no `From` between `u64` and `usize`.
+#[tactic(auto, unfolding(crate::specs::Ppm::small_number))]
+fn small_number(digits: &[u8]) -> Option<usize>
+    ensures { result ≡ small_number digits.now }
 {
     if digits.len() > 9 {
-        return 0;
+        return None;
     }
-    number(digits).unwrap_or(0) as usize
+    number(digits).map(|n| n as usize)
 }
 
-// The number at the front, behind its white space.
-#[tactic(auto, using(crate::proofs::DecimalText::digits_alone), unfolding(crate::specs::Ppm::field_in))]
-fn field_in(bytes: &[u8]) -> Option<Field>
-    ensures says { result ≡ field_in bytes.now }
-    ensures inside { IfSome result (λ field. field.len ≤ length bytes.now) }
+// The number at the front, behind its white space, or the mistake that it is missing or has more than nine digits, which are two of
+// `HeaderError` for each field.
+#[tactic(auto, unfolding(crate::specs::Ppm::field_in))]
+fn field_in(bytes: &[u8], missing: HeaderError, outside: HeaderError) -> Result<Field, HeaderError>
+    ensures says { result ≡ field_in bytes.now missing outside }
+    ensures inside { IfOk result (λ field. field.len ≤ length bytes.now) }
 {
     let gap = gap_in(bytes);
     let rest = &bytes[gap..];
     let count = digits_in(rest);
-    if gap > 0 && count > 0 {
-        let value = small_value(&rest[..count]);
-        Some(Field {
-            value,
-            len: gap + count,
-        })
-    } else {
-        None
+    if gap == 0 || count == 0 {
+        return Err(missing);
     }
+    let value = small_number(&rest[..count]).ok_or(outside)?;
+    Ok(Field {
+        value,
+        len: gap + count,
+    })
 }
 
 // Whether a width or a height is 1 to 16384.
@@ -148,7 +148,7 @@ fn size_in(bytes: &[u8], missing: HeaderError, outside: HeaderError) -> Result<F
     ensures inside { IfOk result (λ size. size.len ≤ length bytes.now) }
     ensures fits { IfOk result (λ size. (1 ≤ size.value) × (size.value ≤ 16384)) }
 {
-    let size = field_in(bytes).ok_or(missing)?;
+    let size = field_in(bytes, missing, outside)?;
     if !size_fits(size.value) {
         return Err(outside);
     }
@@ -161,7 +161,7 @@ fn pixels_in(bytes: &[u8]) -> Result<usize, HeaderError>
     ensures says { result ≡ pixels_in bytes.now }
     ensures inside { IfOk result (λ len. len ≤ length bytes.now) }
 {
-    let maxval = field_in(bytes).ok_or(HeaderError::NoMaxval)?;
+    let maxval = field_in(bytes, HeaderError::NoMaxval, HeaderError::OtherMaxval)?;
     if maxval.value != 255 {
         return Err(HeaderError::OtherMaxval);
     }

@@ -1,8 +1,7 @@
 // The words of a command line: bytes in which a 0 byte ends each word.
-ghost use Rattle.std.specs.Prelude.{◌≡◌, ◌≤◌, length};
-ghost use Rattle.std.specs.List.{prefix_len};
+ghost use Rattle.std.specs.Prelude.{◌≡◌, eqb, position};
 ghost use Rattle.std.specs.Iterator.{YieldsFirstRef, item_count};
-ghost use Rattle.text.specs.Words.{in_word, words_of};
+ghost use Rattle.text.specs.Words.{words_of};
 
 use std::marker::Model;
 
@@ -22,12 +21,12 @@ impl<'a> Model for Words<'a> {
     ghost view = { λ words. words_of words.rest.now };
 }
 
-// The length of the word at the front of a line: up to the first 0 byte, or the whole line.
-fn word_len(line: &[u8]) -> usize
-    ensures length { result ≡ prefix_len in_word line.now }
-    ensures inside { result ≤ length line.now }
+// The place of the first 0 byte of a line. A function of its own for its contract, by which the proof of `next` knows what a run of
+// `position` gives.
+fn word_end(line: &[u8]) -> Option<usize>
+    ensures { result ≡ position (λ b. eqb b 0) line.now }
 {
-    line.iter().take_while(|byte| **byte != 0).count()
+    line.iter().position(|byte| *byte == 0)
 }
 
 impl<'a> Iterator for Words<'a> {
@@ -39,10 +38,7 @@ impl<'a> Iterator for Words<'a> {
 
     #[tactic(auto, using(crate::proofs::WordList::words_none, crate::proofs::WordList::words_first, crate::proofs::WordList::words_fewer))]
     fn next(&mut self) -> Option<&'a [u8]> {
-        let end = word_len(self.rest);
-        if end == self.rest.len() {
-            return None;
-        }
+        let end = word_end(self.rest)?;
         let word = &self.rest[..end];
         self.rest = &self.rest[end + 1..];
         Some(word)

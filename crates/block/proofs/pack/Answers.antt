@@ -1,19 +1,16 @@
 -- `block::pack` meets its contract.
-use mathlib.Core.Path.{◌≡◌, sym, ◌∙◌}
-use borrow.Author.Rules.{rules}
-use Rattle.bptc_block.proofs.PackCall.{pack-block, pack_plain, pack_sixteen}
-use Rattle.bptc_block.proofs.Answers.{pack_left}
+use native.Mathlib.Omega.{arith}
+use mathlib.Core.Path.{◌∙◌}
+use Rattle.refusals.specs.declared.Refusal.TheVariants.{BlockPart, Mode}
+use Rattle.bptc_block.proofs.Answers.{pack_left, pack_part, pack_mode}
 use Rattle.block.proofs.pack.Goals as goal
 
-pub returns-in_err-check_pack-clause-part : goal.returns-in_err-check_pack-clause-part
-returns-in_err-check_pack-clause-part c = pack_left c.in_err-check_pack.field-0.0 c.args.mode c.args.fields c.args.block.now c.in_err-check_pack.ensures
+pub returns-in_default-clause-part : goal.returns-in_default-clause-part
+returns-in_default-clause-part c =
+    pack_left BlockPart _ _ _ (pack_part c.args.fields c.args.block.now c.args.mode c.in_default.ensures.cases)
 
-pub write_block-requires-clause-plain : goal.write_block-requires-clause-plain
-write_block-requires-clause-plain c =
-    pack_plain c.args.mode c.args.fields c.args.block.now (sym c.in_ok-check_pack.ensures) (search rules) (search rules)
-
-pub write_block-requires-clause-sixteen : goal.write_block-requires-clause-sixteen
-write_block-requires-clause-sixteen c = pack_sixteen c.args.mode c.args.fields c.args.block.now (sym c.in_ok-check_pack.ensures)
-
-pub returns-clause-part : goal.returns-clause-part
-returns-clause-part c = c.write_block.ensures ∙ sym (pack-block c.args.mode c.args.fields c.args.block.now (sym c.in_ok-check_pack.ensures))
+pub returns-in_default-mode-clause-part : goal.returns-in_default-mode-clause-part
+returns-in_default-mode-clause-part c =
+    let part = c.in-Some.ensures.cases in
+    let e = pack_mode c.args.fields c.args.block.now part.long c.args.mode (λ e. omega arith) (λ e. omega arith) in
+    part.same ∙ pack_left Mode _ _ _ e

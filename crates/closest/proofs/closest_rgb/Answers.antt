@@ -13,5 +13,5 @@ returns g c =
     let cs = colours_of a.px.now in
     let best = c.least_keys-best in
     let s = c.summed-all.ensures in
-    found_is m (few_colours m is) a.ends a.p a.mask cs (λ (i : ℕ). get_or best.result i 0) (keys_tell m a.ends a.p a.mask cs best.result best.ensures.same)
+    found_is m (few_colours m is) a.ends.stored a.p a.mask cs (λ (i : ℕ). get_or best.result i 0) (keys_tell m a.ends.stored a.p a.mask cs best.result best.ensures.same)
     (2 ^ m.index_bits) (index_digit m is) (rw (c.INDEX_BITS.ensures ∙ g.M.Mode.index_bits_are) at c.word.ensures) s.all s.second

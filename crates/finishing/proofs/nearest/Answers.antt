@@ -34,23 +34,26 @@ module _ (m : Mode) (part : ℕ) (ends : List Rgb) (p : PBits) (px : List ℕ) (
 
 pub overflow_add-result : goal.overflow_add-result
 overflow_add-result g c =
-    let a = c.args in
-    omega (arith, sum_most g.M.Mode.mode a.partition a.ends a.p a.px.now c.picked-got.result c.picked-got.ensures g.M.Mode.is_mode c.requires.stored (λ i h. (c.type_inv.px i).fits), c.lacking.ensures)
+    let p = c.args.p in
+    let q = c.args.query.now in
+    omega (arith, sum_most g.M.Mode.mode q.partition.number q.ends.stored p q.pixels.now c.picked-got.result c.picked-got.ensures g.M.Mode.is_mode q.ends.within q.bytes, c.lacking.ensures)
 
 pub overflow_sub-result : goal.overflow_sub-result
 overflow_sub-result g c =
-    let a = c.args in
-    omega (arith, sum_is g.M.Mode.mode a.partition a.ends a.p a.px.now c.picked-got.result c.picked-got.ensures, c.lacking.ensures)
+    let p = c.args.p in
+    let q = c.args.query.now in
+    omega (arith, sum_is g.M.Mode.mode q.partition.number q.ends.stored p q.pixels.now c.picked-got.result c.picked-got.ensures, c.lacking.ensures)
 
 pub returns : goal.returns
 unfolding nearest_for picked_for
 returns g c =
-    let a = c.args in
+    let p = c.args.p in
+    let q = c.args.query.now in
     let m = g.M.Mode.mode in
     let is = c.picked-got.ensures in
-    let error_at = error_of m a.partition a.ends a.p a.px.now c.picked-got.result is in
+    let error_at = error_of m q.partition.number q.ends.stored p q.pixels.now c.picked-got.result is in
     let error : c.picked-got.result.sum + c.lacking.result - 3121200 ≡ error_at 0 + error_at 1 =
-    omega (arith, sum_is m a.partition a.ends a.p a.px.now c.picked-got.result is, c.lacking.ensures.0) in
+    omega (arith, sum_is m q.partition.number q.ends.stored p q.pixels.now c.picked-got.result is, c.lacking.ensures.0) in
     λ t. record {
       indexes = ap (λ (p : Picked). p.indexes) is t;
       error = error t;

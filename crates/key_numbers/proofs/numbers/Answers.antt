@@ -1,7 +1,7 @@
 -- `key_numbers::numbers` meets its contract. The invariant: the numbers of the first k colours are written.
 use native.Mathlib.Omega.{arith}
-use Prim.Native.Nat.{ℕ, ◌+◌, ◌*◌}
-use mathlib.Core.Path.{◌≡◌, refl, ap₂, ◌∙◌}
+use Prim.Native.Nat.{ℕ, ◌+◌}
+use mathlib.Core.Path.{◌≡◌, ap₂, ◌∙◌}
 use mathlib.Core.List.{◌++◌}
 use lib.ListN.{replicate, length-replicate}
 use Rattle.std.proofs.lemmas.List.{replicate-append-replicate}

@@ -1,22 +1,17 @@
 -- `proposals::offer_records` meets its contract.
-use Rattle.std.proofs.Common.{ℕ, ◌+◌, ◌*◌, ◌-◌, ◌<◌, ◌≡◌, List, map, length, refl, sym, ap, ◌∙◌, arith}
+use Rattle.std.proofs.Common.{ℕ, ◌+◌, ◌*◌, ◌-◌, ◌<◌, ◌≡◌, List, map, length, sym, ap, ◌∙◌, arith}
 use mathlib.Core.List.{map-map}
 use lib.ListN.{length-map}
 use Rattle.std.proofs.lemmas.List.{map-set}
-use Rattle.lists.specs.Rows.{up_from, written}
+use Rattle.lists.specs.Rows.{up_from}
 use Rattle.lists.proofs.Rows.{written_next, written_all}
 use Rattle.refusals.specs.Numbers.{declined}
 use Rattle.chooser.specs.Answers.{Offered, offered}
 use Rattle.chooser.specs.OfferCall.{offer_refusal, offer_of}
-use Rattle.chooser.specs.Calls.{after}
 use Rattle.chooser.proofs.Calls.{offer-number}
 use Rattle.proposals.specs.Records.{candidate_at, candidates_in}
 use Rattle.proposals.proofs.Offering.{records_next}
 use Rattle.proposals.proofs.offer_records.Goals as goal
-
-pub loop-k-init : goal.loop-k-init
-unfolding written candidates_in after
-loop-k-init c = (refl, refl)
 
 pub loop-k-preserved : goal.loop-k-preserved
 loop-k-preserved c =
@@ -35,15 +30,13 @@ loop-k-preserved c =
       ap (λ (o : Offered). o.chooser) answer ∙ records_next c.args.ch at.held records at.k at.invariant.1,
     )
 
-pub returns : goal.returns
+pub returns-clause-part : goal.returns-clause-part
 unfolding candidates_in
-returns c =
+returns-clause-part c =
     let at = c.loop-k in
     let a = c.args in
     let n : ℕ = length a.answers.now in
-    let e : at.k ≡ n = omega arith in (record {
-      answer = rw e at at.invariant.1;
-      part = rw e at at.invariant.0
-          ∙ written_all 0 _ (map declined a.answers.now) n (simp length-map)
-          ∙ sym (map-map offer_refusal (candidate_at a.records.now) (up_from 0 n));
-    })
+    let e : at.k ≡ n = omega arith in
+    rw e at at.invariant.0
+    ∙ written_all 0 _ (map declined a.answers.now) n (simp length-map)
+    ∙ sym (map-map offer_refusal (candidate_at a.records.now) (up_from 0 n))

@@ -10,25 +10,25 @@ use Rattle.lists.specs.Bytes.{number}
 use Rattle.lists.proofs.Rows.{written_next, written_all, listed}
 use Rattle.bptc_block.specs.Fields.{index_width, widths}
 use Rattle.bptc_block.proofs.Packed.{indices-sixteen}
-use Rattle.bptc_block.proofs.Places.{place_inside, next-index, index_at}
-use Rattle.bptc_block.proofs.Modes.{lawful_of, index-narrow}
+use Rattle.bptc_block.proofs.Places.{first-index, place_inside, next-index, index_at}
+use Rattle.bptc_block.proofs.Modes.{lawful_of}
 use Rattle.reading.proofs.indices.Goals as goal
 
 pub loop-i-init : goal.loop-i-init
 unfolding written
-loop-i-init g c = (search rules, refl)
+loop-i-init g c = (c.indices_at-next.ensures ∙ sym (first-index g.M.Mode.mode c.args.partition.number), refl)
 
 pub field-requires : goal.field-requires
 field-requires g c =
     record {
-      inside = omega (arith, place_inside g.M.Mode.mode c.args.partition (lawful_of g.M.Mode.mode g.M.Mode.is_mode).filling (15 + c.loop-i.i) (search rules));
+      inside = omega (arith, place_inside g.M.Mode.mode c.args.partition.number (lawful_of g.M.Mode.mode g.M.Mode.is_mode).filling (15 + c.loop-i.i) (search rules));
       few = search rules;
     }
 
 pub overflow_add-next : goal.overflow_add-next
 overflow_add-next g c =
     let m = g.M.Mode in
-    omega (arith, place_inside m.mode c.args.partition (lawful_of m.mode m.is_mode).filling (15 + c.loop-i.i) (search rules), c.INDEX_BITS.ensures, m.index_bits_are, index-narrow m.mode m.is_mode)
+    omega (arith, place_inside m.mode c.args.partition.number (lawful_of m.mode m.is_mode).filling (15 + c.loop-i.i) (search rules))
 
 pub loop-i-preserved : goal.loop-i-preserved
 unfolding index_width
@@ -38,9 +38,9 @@ loop-i-preserved g c =
     let m = g.M.Mode.mode in
     let n = number a.block.now in
     let h : at.i < 16 = omega arith in
-    let width : c.index_width-width.result ≡ index_width m a.partition at.i = rw (c.INDEX_BITS.ensures, g.M.Mode.index_bits_are, c.anchor-place.ensures.0, c.from.ensures) at c.index_width-width.ensures.0 in
-    let value : c.field.result ≡ get_or (drop 15 (split (widths m a.partition) n)) at.i 0 = c.field.ensures ∙ ap₂ (field_at n) at.invariant.0 width ∙ sym (index_at m a.partition n at.i h) in (
-      ap₂ ◌+◌ at.invariant.0 width ∙ sym (next-index m a.partition at.i h),
+    let width = c.index_width-width.ensures.0 in
+    let value : c.field.result ≡ get_or (drop 15 (split (widths m a.partition.number) n)) at.i 0 = c.field.ensures ∙ ap₂ (field_at n) at.invariant.0 width ∙ sym (index_at m a.partition.number n at.i h) in (
+      ap₂ ◌+◌ at.invariant.0 width ∙ sym (next-index m a.partition.number at.i h),
       rw (at.invariant.1, value) (written_next 0 _ (replicate 16 0) at.i h),
     )
 
@@ -50,4 +50,4 @@ returns g c =
     let e : c.loop-i.i ≡ 16 = omega arith in
     rw e at c.loop-i.invariant.1
     ∙ written_all 0 _ (replicate 16 0) 16 refl
-    ∙ listed 0 (drop 15 (split (widths (g.M.Mode.mode) a.partition) (number a.block.now))) 16 (indices-sixteen (g.M.Mode.mode) a.partition (number a.block.now))
+    ∙ listed 0 (drop 15 (split (widths (g.M.Mode.mode) a.partition.number) (number a.block.now))) 16 (indices-sixteen (g.M.Mode.mode) a.partition.number (number a.block.now))

@@ -10,5 +10,5 @@ use Rattle.reading.proofs.indices.Given as goal
 
 abbrev pub invariant-loop-i : goal.invariant-loop-i
 invariant-loop-i g l =
-    (l.next ≡ sum (take (15 + l.i) (widths g.M.Mode.mode l.partition)))
-    × (l.out ≡ written (λ (i : ℕ). get_or (drop 15 (split (widths g.M.Mode.mode l.partition) (number l.block))) i 0) l.i (replicate 16 0))
+    (l.next ≡ sum (take (15 + l.i) (widths g.M.Mode.mode l.partition.number)))
+    × (l.index-items ≡ written (λ (i : ℕ). get_or (drop 15 (split (widths g.M.Mode.mode l.partition.number) (number l.block))) i 0) l.i (replicate 16 0))

@@ -2,7 +2,6 @@
 use native.Mathlib.Nat.{lt_of_le_of_lt, mul-le-mul_right}
 use native.Mathlib.Omega.{arith}
 use Prim.Native.Nat.{◌≤◌}
-use mathlib.Core.Path.{◌≡◌}
 use lib.Dec.{lit<}
 use Rattle.bptc.proofs.Modes.{few_colours}
 use Rattle.bc7_c.proofs.Masked.{index-mask}

@@ -33,22 +33,25 @@ module _ (part : ℕ) {bits entry w : ℕ} (few : bits ≤ 3) (same : w ≡ bits
 pub ensure_msb_zero-second-requires : goal.ensure_msb_zero-second-requires
 ensure_msb_zero-second-requires g c =
     let m = g.M.Mode in
-    anchor-inside c.args.partition (index-narrow m.mode m.is_mode).1 (c.INDEX_BITS.ensures ∙ m.index_bits_are) c.entry-entry.ensures c.requires
+    let partition = c.args.partition in
+    anchor-inside partition.number (index-narrow m.mode m.is_mode).1 (c.INDEX_BITS.ensures ∙ m.index_bits_are) c.entry-entry.ensures partition.inside
 
 pub compress_single_index-shorter-requires : goal.compress_single_index-shorter-requires
 compress_single_index-shorter-requires g c =
     let m = g.M.Mode in
-    anchor-inside c.args.partition (index-narrow m.mode m.is_mode).1 (c.INDEX_BITS.ensures ∙ m.index_bits_are) c.entry-entry.ensures c.requires
+    let partition = c.args.partition in
+    anchor-inside partition.number (index-narrow m.mode m.is_mode).1 (c.INDEX_BITS.ensures ∙ m.index_bits_are) c.entry-entry.ensures partition.inside
 
 pub returns : goal.returns
 returns g c =
     let m = g.M.Mode in
     let few = (index-narrow m.mode m.is_mode).1 in
+    let partition = c.args.partition in
     let w = c.INDEX_BITS.ensures ∙ m.index_bits_are in
     let mask = c.entry-entry.result % (1 * 2 ^ (c.INDEX_BITS.result * 16) % 2 ^ 64) in
     let first = c.ensure_msb_zero-first.ensures ∙ ap (λ (n : ℕ). ensure_msb_zero m.mode.index_bits c.args.indexes 0 (bit_xor mask (INDEXES-MASK n))) w in
-    let (same, (swap0, swap1)) = p2_steps m.mode.index_bits c.args.indexes c.args.partition (index-narrow m.mode m.is_mode).0 few c.requires
-    (low-is c.args.partition few w c.entry-entry.ensures) (anchor-is c.args.partition few w c.entry-entry.ensures)
+    let (same, (swap0, swap1)) = p2_steps m.mode.index_bits c.args.indexes partition.number (index-narrow m.mode m.is_mode).0 few partition.inside
+    (low-is partition.number few w c.entry-entry.ensures) (anchor-is partition.number few w c.entry-entry.ensures)
     (ap (λ r. r.0) first) (ap (λ r. r.1) first) (ap (λ r. r.0) c.ensure_msb_zero-second.ensures) (ap (λ r. r.1) c.ensure_msb_zero-second.ensures)
     c.compress_single_index-shorter.ensures c.compress_single_index.ensures in
     record { same = same; first = swap0; second = swap1 }

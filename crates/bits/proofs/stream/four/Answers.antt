@@ -58,22 +58,26 @@ module _ {bits a b c d : ℕ} (few : bits ≤ 8) (first : a < 2 ^ bits) (second 
 
 pub overflow_add-two : goal.overflow_add-two
 overflow_add-two c =
-    let small = c.requires.small in
-    rw (c.from.ensures, c.from-2.ensures) (record { fits = two-fits c.requires.few (small 0 (omega arith)) (small 1 (omega arith)) (small 2 (omega arith)) (small 3 (omega arith)) })
+    let small = c.requires in
+    let few : c.args.width.bits ≤ 8 = omega (arith, c.args.width.narrow) in
+    rw (c.from.ensures, c.from-2.ensures) (record { fits = two-fits few (small 0 (omega arith)) (small 1 (omega arith)) (small 2 (omega arith)) (small 3 (omega arith)) })
 
 pub overflow_add-three : goal.overflow_add-three
 overflow_add-three c =
-    let small = c.requires.small in
-    rw (c.from.ensures, c.from-2.ensures, c.from-3.ensures) (record { fits = three-fits c.requires.few (small 0 (omega arith)) (small 1 (omega arith)) (small 2 (omega arith)) (small 3 (omega arith)) })
+    let small = c.requires in
+    let few : c.args.width.bits ≤ 8 = omega (arith, c.args.width.narrow) in
+    rw (c.from.ensures, c.from-2.ensures, c.from-3.ensures) (record { fits = three-fits few (small 0 (omega arith)) (small 1 (omega arith)) (small 2 (omega arith)) (small 3 (omega arith)) })
 
 pub overflow_add-result : goal.overflow_add-result
 overflow_add-result c =
-    let small = c.requires.small in
-    rw (c.from.ensures, c.from-2.ensures, c.from-3.ensures, c.from-4.ensures) (record { fits = four-fits c.requires.few (small 0 (omega arith)) (small 1 (omega arith)) (small 2 (omega arith)) (small 3 (omega arith)) })
+    let small = c.requires in
+    let few : c.args.width.bits ≤ 8 = omega (arith, c.args.width.narrow) in
+    rw (c.from.ensures, c.from-2.ensures, c.from-3.ensures, c.from-4.ensures) (record { fits = four-fits few (small 0 (omega arith)) (small 1 (omega arith)) (small 2 (omega arith)) (small 3 (omega arith)) })
 
 pub returns : goal.returns
 returns c =
-    let small = c.requires.small in
-    let (same, below) = four-is c.requires.few (small 0 (omega arith)) (small 1 (omega arith)) (small 2 (omega arith)) (small 3 (omega arith)) in
+    let small = c.requires in
+    let few : c.args.width.bits ≤ 8 = omega (arith, c.args.width.narrow) in
+    let (same, below) = four-is few (small 0 (omega arith)) (small 1 (omega arith)) (small 2 (omega arith)) (small 3 (omega arith)) in
     let channels = c.args.channels in
-    rw (c.from.ensures, c.from-2.ensures, c.from-3.ensures, c.from-4.ensures) (record { same = same ∙ ap (join (replicate 4 c.args.bits)) (listed 0 channels 4 (search rules)); small = below })
+    rw (c.from.ensures, c.from-2.ensures, c.from-3.ensures, c.from-4.ensures) (record { same = same ∙ ap (join (replicate 4 c.args.width.bits)) (listed 0 channels 4 (search rules)); small = below })

@@ -1,5 +1,5 @@
 -- `bits::writing::write_narrowed` meets its contract.
-use Prim.Native.Nat.{ℕ, ◌≤◌, ◌^◌}
+use Prim.Native.Nat.{ℕ, ◌≤◌}
 use native.Mathlib.Omega.{arith}
 use mathlib.Core.Path.{◌≡◌, refl, ap, ◌∙◌}
 use lib.ListN.{replicate}
@@ -25,20 +25,20 @@ narrowed-indexes-requires g c =
     let m = g.M.Mode.mode in
     let bits : c.INDEX_BITS.result ≡ m.index_bits = c.INDEX_BITS.ensures ∙ g.M.Mode.index_bits_are in
     let few : m.index_bits ≤ 3 = by_mode (λ (m : Mode). m.index_bits ≤ 3) (omega arith) (omega arith) m g.M.Mode.is_mode in
-    record { few = omega arith; small = rw bits (plain_small m (word_fields 4 c.args.w) c.requires.plain) }
+    record { few = omega arith; small = rw bits (plain_small m (word_fields 4 c.args.w) c.requires) }
 
 pub write_words-requires-clause-plain : goal.write_words-requires-clause-plain
 write_words-requires-clause-plain g c =
     let m = g.M.Mode in
-    rw (listed g (goal.at.write_words-requires-clause-plain g c).After-narrowed-indexes, words-stand m.mode m.is_mode (word_fields 4 c.args.w) c.requires.plain c.args.w.ends refl)
-    c.requires.plain
+    rw (listed g (goal.at.write_words-requires-clause-plain g c).After-narrowed-indexes, words-stand m.mode m.is_mode (word_fields 4 c.args.w) c.requires c.args.w.ends refl)
+    c.requires
 
 pub write_words-requires-clause-list : goal.write_words-requires-clause-list
 write_words-requires-clause-list g c =
     let m = g.M.Mode in
-    rw (listed g (goal.at.write_words-requires-clause-list g c).After-narrowed-indexes) (list_small m.mode m.is_mode (word_fields 4 c.args.w) c.requires.plain)
+    rw (listed g (goal.at.write_words-requires-clause-list g c).After-narrowed-indexes) (list_small m.mode m.is_mode (word_fields 4 c.args.w) c.requires)
 
 pub returns : goal.returns
 returns g c =
     let m = g.M.Mode in
-    rw (listed g (goal.at.returns g c).After-narrowed-indexes, words-stand m.mode m.is_mode (word_fields 4 c.args.w) c.requires.plain c.args.w.ends refl) at c.write_words.ensures
+    rw (listed g (goal.at.returns g c).After-narrowed-indexes, words-stand m.mode m.is_mode (word_fields 4 c.args.w) c.requires c.args.w.ends refl) at c.write_words.ensures

@@ -19,24 +19,24 @@ use Rattle.bits.proofs.writing.write_words.Goals as goal
 
 -- what is written: the compressed fields
 made : (m : Mode) → IsMode m → (w : Words) → Plain m (word_fields m.index_bits w) → w.indexes < 2 ^ (16 * m.index_bits) →
-    {n p part : ℕ} {t u : Bool} {ends : List Rgb} → part ≡ w.partition → n ≡ (compress_p2 m.index_bits w.indexes (PARTITION-SET-2 part)).0.compressed_indexes →
-    t ≡ (compress_p2 m.index_bits w.indexes (PARTITION-SET-2 part)).1 → u ≡ (compress_p2 m.index_bits w.indexes (PARTITION-SET-2 part)).2 →
+    {n p : ℕ} {t u : Bool} {ends : List Rgb} → n ≡ (compress_p2 m.index_bits w.indexes (PARTITION-SET-2 w.partition)).0.compressed_indexes →
+    t ≡ (compress_p2 m.index_bits w.indexes (PARTITION-SET-2 w.partition)).1 → u ≡ (compress_p2 m.index_bits w.indexes (PARTITION-SET-2 w.partition)).2 →
     ends ≡ swapped_ends (map pixel_of w.ends) t u → p ≡ exchanged_both m t u w.p → Ready m (word_fields m.index_bits w) ends p n
-made m known w plain small {n} {p} {part} {t} {u} same e₀ e₁ e₂ ends bits =
+made m known w plain small {n} {p} {t} {u} e₀ e₁ e₂ ends bits =
     let f = word_fields m.index_bits w in
     rw ends
-    (ready m (lawful_of m known) (masks_in m known) f plain w.indexes (sym (split_list m.index_bits (index-narrow m known).1 w.indexes small)) t u n p (rw same at e₀) (rw same at e₁) (rw same at e₂) bits)
+    (ready m (lawful_of m known) (masks_in m known) f plain w.indexes (sym (split_list m.index_bits (index-narrow m known).1 w.indexes small)) t u n p e₀ e₁ e₂ bits)
 
 pub write_fields-bits-requires : goal.write_fields-bits-requires
 write_fields-bits-requires g c =
     let m = g.M.Mode in
     let q = c.compress_p2-indexes.ensures in
-    let r = made m.mode m.is_mode c.args.w c.requires.plain c.requires.list c.from.ensures q.same q.first q.second c.swapped.ensures c.exchanged_bits.ensures in
+    let r = made m.mode m.is_mode c.args.w c.requires.plain c.requires.list q.same q.first q.second c.swapped.ensures c.exchanged_bits.ensures in
     record { inside = c.requires.plain.partition; stored = r.channels; own = r.own; rest = r.rest }
 
 pub returns : goal.returns
 returns g c =
     let m = g.M.Mode in
     let q = c.compress_p2-indexes.ensures in
-    let r = made m.mode m.is_mode c.args.w c.requires.plain c.requires.list c.from.ensures q.same q.first q.second c.swapped.ensures c.exchanged_bits.ensures in
+    let r = made m.mode m.is_mode c.args.w c.requires.plain c.requires.list q.same q.first q.second c.swapped.ensures c.exchanged_bits.ensures in
     c.write_bytes.ensures ∙ r.block c.write_fields-bits.result c.write_fields-bits.ensures

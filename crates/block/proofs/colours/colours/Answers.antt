@@ -1,5 +1,5 @@
 -- `block::colours::colours` meets its contract. The invariant: the first i colours are written.
-use Prim.Native.Nat.{ℕ, ◌<◌}
+use Prim.Native.Nat.{ℕ}
 use native.Mathlib.Omega.{arith}
 use mathlib.Core.Path.{◌≡◌, refl, ◌∙◌}
 use lib.ListN.{get_or, replicate}
@@ -22,18 +22,13 @@ pub loop-i-init : goal.loop-i-init
 unfolding written
 loop-i-init g c = refl
 
-pub overflow_cast-c : goal.overflow_cast-c
-overflow_cast-c g c =
-    omega (arith, few_colours g.M.Mode.mode g.M.Mode.is_mode, c.requires.indices c.loop-i.i (search rules))
-
-pub bounds-row-f : goal.bounds-row-f
-bounds-row-f g c =
-    omega (arith, few_colours g.M.Mode.mode g.M.Mode.is_mode, c.requires.indices c.loop-i.i (search rules))
+pub bounds-row-from : goal.bounds-row-from
+bounds-row-from g c = omega (arith, few_colours g.M.Mode.mode g.M.Mode.is_mode, c.requires.indices c.loop-i.i (search rules))
 
 pub loop-i-preserved : goal.loop-i-preserved
 loop-i-preserved g c =
     let at = c.loop-i in
-    rw (at.invariant, c.from.ensures) (written_next black _ (replicate 16 black) at.i (search rules))
+    rw (at.invariant, c.from-in-loop-i-2.ensures, c.from-in-loop-i.ensures, c.from.ensures) (written_next black _ (replicate 16 black) at.i (search rules))
 
 pub returns : goal.returns
 unfolding colours colour_at subset_of
@@ -49,6 +44,6 @@ returns g c =
     ∙ written_all black read (replicate 16 black) 16 refl
     ∙ each_same black read (colour_at m f) 16
     (λ i h.
-    rw (rows.ensures, mask.ensures)
+    rw (rows.ensures, c.new.ensures, mask.ensures)
     (word-shown m (few_colours m is) f.ends f.p (subset_of f.partition i) (get_or f.indices i 0) (subset_two f.partition i) (omega (arith, c.requires.indices i h))
     (shades_of m is) c.requires.channels))

@@ -16,7 +16,7 @@ pub loop-i-preserved : goal.loop-i-preserved
 loop-i-preserved c =
     let a = c.args in
     let at = c.loop-i in
-    let apart : ℕ → ℕ = λ (i : ℕ). dist_sq (get_or (colours_of a.pixels.now) i black) (get_or a.colours i black) in
+    let apart : ℕ → ℕ = λ (i : ℕ). dist_sq (get_or (colours_of a.pixels.now) i black) (get_or a.colours.now i black) in
     let own : c.dist_sq-sum.result ≡ apart at.i = rw (← c.pixel_at.ensures) c.dist_sq-sum.ensures.0 in
     (ap₂ ◌+◌ at.invariant.0 own ∙ sym (sum_to-suc apart at.i), search rules)
 

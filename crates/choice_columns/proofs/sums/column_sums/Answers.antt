@@ -1,5 +1,5 @@
--- `choice_columns::sums::column_sums` meets its contract. The invariant: the sums and words over the last k pixels.
-use Rattle.std.proofs.Common.{◌≡◌, ℕ, ◌+◌, ◌-◌, ◌*◌, ◌^◌, ◌<◌, ◌≤◌, Bool, true, false, eqb, get_or, refl, le_trans, arith}
+-- `choice_columns::sums::column_sums` meets its contract. The invariant: the sums and words over the pixels from i on.
+use Rattle.std.proofs.Common.{◌≡◌, ℕ, ◌+◌, ◌-◌, ◌*◌, ◌^◌, ◌<◌, ◌≤◌, Bool, true, false, eqb, refl, le_trans, arith}
 use lib.Bits.{bit_and, and_le_l}
 use Rattle.lists.specs.Tests.{pick}
 use Rattle.lists.specs.Rows.{over_pixels}
@@ -16,14 +16,14 @@ pick_le : (t : Bool) (x : ℕ) → pick t x 0 ≤ x
 pick_le true x = omega arith
 pick_le false x = omega arith
 
-pub loop-k-init : goal.loop-k-init
+pub loop-i-init : goal.loop-i-init
 unfolding join
-loop-k-init c = (refl, refl, refl)
+loop-i-init c = (refl, refl, refl)
 
 pub grown-more-requires : goal.grown-more-requires
 grown-more-requires c =
-    let at = c.loop-k in
-    let i = 16 - at.k in
+    let at = c.loop-i in
+    let i = at.i in
     let columns = c.args.columns.now in
     let small : (q i : ℕ) → apart columns q i < 2 ^ 31 = λ q i. omega (arith, c.requires q i) in
     λ k.
@@ -32,13 +32,13 @@ grown-more-requires c =
       arith,
       small_each (λ (q : ℕ). sum_from (apart columns q) i) 4 (2 ^ 31) (omega arith)
           (λ q h. omega (arith, sum_most (apart columns q) (2 ^ 20) (16 - i) i (λ i. omega (arith, c.requires q i)))) k,
-      four_below (small 0 (15 - at.k)) (small 1 (15 - at.k)) (small 2 (15 - at.k)) (small 3 (15 - at.k)) k,
+      four_below (small 0 (i - 1)) (small 1 (i - 1)) (small 2 (i - 1)) (small 3 (i - 1)) k,
     ))
 
 pub grown-other-requires : goal.grown-other-requires
 grown-other-requires c =
-    let at = c.loop-k in
-    let i = 16 - at.k in
+    let at = c.loop-i in
+    let i = at.i in
     let columns = c.args.columns.now in
     let mask = c.args.mask in
     let most : (q i : ℕ) → of_second columns mask q i ≤ 2 ^ 20 = λ q i. le_trans (pick_le (eqb (bit mask i) 1) (apart columns q i)) (omega (arith, c.requires q i)) in
@@ -50,16 +50,16 @@ grown-other-requires c =
       arith,
       small_each (λ (q : ℕ). sum_from (of_second columns mask q) i) 4 (2 ^ 31) (omega arith)
           (λ q h. omega (arith, sum_most (of_second columns mask q) (2 ^ 20) (16 - i) i (most q))) k,
-      four_below (small 0 (15 - at.k) s) (small 1 (15 - at.k) s) (small 2 (15 - at.k) s) (small 3 (15 - at.k) s) k,
+      four_below (small 0 (i - 1) s) (small 1 (i - 1) s) (small 2 (i - 1) s) (small 3 (i - 1) s) k,
     ))
 
 pub grown-longer-requires : goal.grown-longer-requires
 grown-longer-requires c =
-    let at = c.loop-k in
-    let i = 16 - at.k in
+    let at = c.loop-i in
+    let i = at.i in
     let columns = c.args.columns.now in
     let some : 0 < i = omega arith in
-    let small : (q : ℕ) → index columns q (15 - at.k) < 4 = λ q. omega arith in
+    let small : (q : ℕ) → index columns q (i - 1) < 4 = λ q. omega arith in
     λ k.
     rw at.invariant.2
     (omega (
@@ -69,35 +69,33 @@ grown-longer-requires c =
       four_below (small 0) (small 1) (small 2) (small 3) k,
     ))
 
-pub loop-k-preserved : goal.loop-k-preserved
-loop-k-preserved c =
-    let at = c.loop-k in
+pub loop-i-preserved : goal.loop-i-preserved
+loop-i-preserved c =
+    let at = c.loop-i in
     let columns = c.args.columns.now in
     let mask = c.args.mask in
-    let i = 16 - at.k in
+    let i = at.i in
     let some : 0 < i = omega arith in
-    let here : 15 - at.k ≡ i - 1 = omega arith in
-    let next : 16 - (at.k + 1) ≡ i - 1 = omega arith in
     let ones = c.all_ones-s in
-    let down : (q : ℕ) → sum_from (apart columns q) i * 1 + apart columns q (15 - at.k) ≡ sum_from (apart columns q) (16 - (at.k + 1)) =
-    λ q. rw (here, next) (omega (arith, sum_down (apart columns q) i some (omega arith))) in
-    let other : (q : ℕ) → sum_from (of_second columns mask q) i * 1 + bit_and (apart columns q (15 - at.k)) ones.result ≡ sum_from (of_second columns mask q) (16 - (at.k + 1)) =
+    let down : (q : ℕ) → sum_from (apart columns q) i * 1 + apart columns q (i - 1) ≡ sum_from (apart columns q) (i - 1) =
+    λ q. (omega (arith, sum_down (apart columns q) i some (omega arith))) in
+    let other : (q : ℕ) → sum_from (of_second columns mask q) i * 1 + bit_and (apart columns q (i - 1)) ones.result ≡ sum_from (of_second columns mask q) (i - 1) =
     λ q.
-    rw (ones.ensures, and_ones (apart columns q (15 - at.k)) (bit mask (15 - at.k)) (omega (arith, c.requires q (15 - at.k))) (omega arith), here, next)
+    rw (ones.ensures, and_ones (apart columns q (i - 1)) (bit mask (i - 1)) (omega (arith, c.requires q (i - 1))) (omega arith))
     (omega (arith, sum_down (of_second columns mask q) i some (omega arith))) in
-    let longer : (q : ℕ) → joined_from 2 (index columns q) i (16 - i) * 4 + index columns q (15 - at.k) ≡ joined_from 2 (index columns q) (16 - (at.k + 1)) (16 - (16 - (at.k + 1))) =
-    λ q. rw (here, next) (join_down (index columns q) i some (omega arith)) in (
-      four-next (λ (c : ℕ). sum_from (apart columns c) i) (λ (c : ℕ). sum_from (apart columns c) (16 - (at.k + 1))) (λ (x y : ℕ). x * 1 + y) _ _ _ _ _ _ at.invariant.0 c.grown-more.ensures
+    let longer : (q : ℕ) → joined_from 2 (index columns q) i (16 - i) * 4 + index columns q (i - 1) ≡ joined_from 2 (index columns q) (i - 1) (16 - (i - 1)) =
+    λ q. (join_down (index columns q) i some (omega arith)) in (
+      four-next (λ (c : ℕ). sum_from (apart columns c) i) (λ (c : ℕ). sum_from (apart columns c) (i - 1)) (λ (x y : ℕ). x * 1 + y) _ _ _ _ _ _ at.invariant.0 c.grown-more.ensures
           (down 0) (down 1) (down 2) (down 3),
-      four-next (λ (c : ℕ). sum_from (of_second columns mask c) i) (λ (c : ℕ). sum_from (of_second columns mask c) (16 - (at.k + 1))) (λ (x y : ℕ). x * 1 + y) _ _ _ _ _ _ at.invariant.1 c.grown-other.ensures
+      four-next (λ (c : ℕ). sum_from (of_second columns mask c) i) (λ (c : ℕ). sum_from (of_second columns mask c) (i - 1)) (λ (x y : ℕ). x * 1 + y) _ _ _ _ _ _ at.invariant.1 c.grown-other.ensures
           (other 0) (other 1) (other 2) (other 3),
-      four-next (λ (c : ℕ). joined_from 2 (index columns c) i (16 - i)) (λ (c : ℕ). joined_from 2 (index columns c) (16 - (at.k + 1)) (16 - (16 - (at.k + 1)))) (λ (x y : ℕ). x * 4 + y) _ _ _ _ _ _ at.invariant.2 c.grown-longer.ensures
+      four-next (λ (c : ℕ). joined_from 2 (index columns c) i (16 - i)) (λ (c : ℕ). joined_from 2 (index columns c) (i - 1) (16 - (i - 1))) (λ (x y : ℕ). x * 4 + y) _ _ _ _ _ _ at.invariant.2 c.grown-longer.ensures
           (longer 0) (longer 1) (longer 2) (longer 3),
     )
 
 pub returns : goal.returns
 unfolding over_pixels
 returns c =
-    let at = c.loop-k in
-    let e : 16 - at.k ≡ 0 = omega arith in
+    let at = c.loop-i in
+    let e : at.i ≡ 0 = omega arith in
     (record { all = rw e at at.invariant.0; second = rw e at at.invariant.1; words = rw e at at.invariant.2 })

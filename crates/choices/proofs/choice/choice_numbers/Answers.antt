@@ -6,4 +6,4 @@ use Rattle.choices.proofs.choice.choice_numbers.Goals as goal
 pub returns : goal.returns
 returns c =
     c.numbers_of4.ensures
-    ∙ choice_rows c.args.ends c.requires _ _ _ _ c.palettes.ensures c.palettes-2.ensures c.palettes-3.ensures c.palettes-4.ensures
+    ∙ choice_rows c.args.ends.stored c.args.ends.within _ _ _ _ c.palettes.ensures c.palettes-2.ensures c.palettes-3.ensures c.palettes-4.ensures

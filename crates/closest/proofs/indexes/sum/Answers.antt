@@ -1,14 +1,11 @@
 -- `closest::indexes::sum` meets its contract. The invariant: the sum over the pixels so far.
 use native.Mathlib.Omega.{arith}
 use Prim.Native.Nat.{ℕ, ◌+◌, ◌/◌}
-use mathlib.Core.Path.{◌≡◌, refl, sym, ap, ◌∙◌}
+use mathlib.Core.Path.{◌≡◌, sym, ap, ◌∙◌}
 use lib.ListN.{get_or}
 use Rattle.lists.specs.Rows.{over_pixels}
 use Rattle.lists.proofs.Sums.{sum_to-suc}
 use Rattle.closest.proofs.indexes.sum.Goals as goal
-
-pub overflow_add-all : goal.overflow_add-all
-overflow_add-all c = omega (arith, c.requires c.loop-key.key-index)
 
 pub loop-key-preserved : goal.loop-key-preserved
 loop-key-preserved c =

@@ -1,7 +1,6 @@
 -- `closest::indexes::summed` meets its contract. The invariant: the sums over the first i pixels.
-use borrow.Author.Rules.{rules}
 use native.Mathlib.Omega.{arith}
-use mathlib.Core.Path.{◌≡◌, refl, sym, ap, ap₂, ◌∙◌}
+use mathlib.Core.Path.{◌≡◌, sym, ap, ap₂, ◌∙◌}
 use lib.Dec.{eqb}
 use lib.ListN.{get_or}
 use Rattle.lists.specs.Tests.{pick}
@@ -25,24 +24,14 @@ placed mask i n h = rw (place i h, and-bit mask i) (go (bit mask i) (2 ^ i) (ome
     go (suc zero) q l k = rw (ne_eqb (1 * q) 0 (λ e. omega arith))
     go (suc (suc b)) q l k = absurd (omega arith)
 
-pub loop-i-init : goal.loop-i-init
-loop-i-init c = (search rules, refl, refl, (search rules, search rules))
-
-pub overflow_add-all : goal.overflow_add-all
-overflow_add-all c = omega (arith, c.requires c.loop-i.i)
-
-pub overflow_add-second : goal.overflow_add-second
-overflow_add-second c = omega (arith, c.requires c.loop-i.i, c.marked-second.ensures.1)
-
 pub loop-i-preserved : goal.loop-i-preserved
 loop-i-preserved c =
     let at = c.loop-i in
     let best = c.args.best.now in
     let own : c.marked-second.result ≡ pick (eqb (bit c.args.mask at.i) 1) (get_or best at.i 0 / 8) 0 =
     c.marked-second.ensures.0 ∙ placed c.args.mask at.i (get_or best at.i 0 / 8) (omega arith) in (
-      search rules,
-      ap (λ (n : ℕ). n + get_or best at.i 0 / 8) at.invariant.1 ∙ sym (sum_to-suc _ at.i),
-      ap₂ ◌+◌ at.invariant.2 own ∙ sym (sum_to-suc _ at.i),
+      ap (λ (n : ℕ). n + get_or best at.i 0 / 8) at.invariant.0 ∙ sym (sum_to-suc _ at.i),
+      ap₂ ◌+◌ at.invariant.1 own ∙ sym (sum_to-suc _ at.i),
       (omega (arith, c.requires at.i), omega (arith, c.requires at.i, c.marked-second.ensures.1)),
     )
 
@@ -51,4 +40,4 @@ unfolding over_pixels
 returns c =
     let at = c.loop-i in
     let e : at.i ≡ 16 = omega arith in
-    (record { all = rw e at at.invariant.1; second = rw e at at.invariant.2 })
+    (record { all = rw e at at.invariant.0; second = rw e at at.invariant.1 })

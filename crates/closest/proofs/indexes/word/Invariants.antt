@@ -1,5 +1,5 @@
 -- `closest::indexes::word` meets its contract. The invariant: the last i indices of each half are joined.
-use Prim.Native.Nat.{ℕ, ◌-◌, ◌*◌, ◌%◌, ◌^◌, ◌≤◌, ◌<◌}
+use Prim.Native.Nat.{ℕ, ◌-◌, ◌*◌, ◌%◌, ◌^◌, ◌<◌}
 use mathlib.Core.Path.{◌≡◌}
 use mathlib.Core.List.{List}
 use lib.ListN.{get_or}
@@ -12,6 +12,5 @@ index bits best i = get_or best i 0 % 2 ^ bits
 
 abbrev pub invariant-loop-i : goal.invariant-loop-i
 invariant-loop-i l =
-    (l.i ≤ 8)
-    × ((l.lo ≡ joined_from l.bits (index l.bits l.best) (8 - l.i) l.i) × (l.lo < 2 ^ (l.bits * l.i)))
+    ((l.lo ≡ joined_from l.bits (index l.bits l.best) (8 - l.i) l.i) × (l.lo < 2 ^ (l.bits * l.i)))
     × ((l.hi ≡ joined_from l.bits (index l.bits l.best) (16 - l.i) l.i) × (l.hi < 2 ^ (l.bits * l.i)))

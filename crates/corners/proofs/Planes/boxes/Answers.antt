@@ -4,7 +4,7 @@ use lib.Dec.{eqb}
 use Rattle.lists.specs.Digits.{bit}
 use Rattle.lists.proofs.Rows.{get_or-each}
 use Rattle.corners.specs.Corners.{colour_in, boxes_of}
-use Rattle.corners.proofs.Boxing.{box_none, box_next}
+use Rattle.corners.proofs.Boxing.{box_next}
 use Rattle.corners.proofs.Planes.boxes.Goals.{In-loop-i}
 use Rattle.corners.proofs.Planes.boxes.Goals as goal
 
@@ -17,9 +17,6 @@ tested : (b : ℕ) → b < 2 → ((b * 255) % 255 ≡ 0) × (eqb (b * 255) 0 ≡
 tested zero h = (refl, refl, refl, refl)
 tested (suc zero) h = (refl, refl, refl, refl)
 tested (suc (suc b)) h = absurd (omega arith)
-
-pub loop-i-init : goal.loop-i-init
-loop-i-init c = (sym (box_none _ _), sym (box_none _ _))
 
 pub widened-first-requires : goal.widened-first-requires
 widened-first-requires c = rw (mark (goal.at.widened-first-requires c).In-loop-i) (tested (bit c.args.mask c.loop-i.i) (omega arith)).0
@@ -45,6 +42,3 @@ returns c =
     let at = c.loop-i in
     let e : at.i ≡ 16 = omega arith in
     λ t. record { first = rw e at at.invariant.0 t; second = rw e at at.invariant.1 t }
-
-pub overflow_sub-mark : goal.overflow_sub-mark
-overflow_sub-mark c = omega (arith, mark (goal.at.overflow_sub-mark c).In-loop-i)

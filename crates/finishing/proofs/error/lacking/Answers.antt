@@ -1,4 +1,5 @@
 -- `finishing::error::lacking` meets its contract. The invariant: the sum over the first bytes.
+use borrow.Author.Rules.{rules}
 use native.Mathlib.Omega.{arith}
 use Prim.Native.Nat.{ℕ, ◌+◌, ◌*◌}
 use mathlib.Core.Path.{◌≡◌, sym, ap, ap₂, ◌∙◌}
@@ -18,5 +19,5 @@ pub returns : goal.returns
 returns c =
     let at = c.loop-x in
     let e : at.x-index ≡ 48 = omega arith in
-    let whole = rw (← rw e at at.invariant.0) at (lacking-raised c.args.px.now (λ i h. (c.type_inv.px i).fits) c.requires) in
+    let whole = rw (← rw e at at.invariant.0) at (lacking-raised c.args.px.now (λ i h. c.fits-px i) (search rules)) in
     (whole, omega arith)

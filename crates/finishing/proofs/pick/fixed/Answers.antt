@@ -21,15 +21,17 @@ joined-same = by_mode (λ (m : Mode). (p : ℕ) → joined_bits m p p ≡ p) (λ
 
 pub returns : goal.returns
 returns g c =
-    let a = c.args in
+    let p = c.args.p in
+    let part = c.args.query.now.partition.number in
+    let ends = c.args.query.now.ends.stored in
     let m = g.M.Mode.mode in
     let known = g.M.Mode.is_mode in
-    let cs = colours_of a.px.now in
-    let mask = mask_of a.partition in
+    let cs = colours_of c.args.query.now.pixels.now in
+    let mask = mask_of part in
     let best = c.least_keys-best in
-    let told = keys_tell m a.ends a.p mask cs best.result (best.ensures.same ∙ ap (λ (n : ℕ). least_keys m a.ends a.p n cs) (c.from.ensures ∙ c.mask.ensures)) in
+    let told = keys_tell m ends p mask cs best.result (best.ensures.same ∙ ap (λ (n : ℕ). least_keys m ends p n cs) (c.from-mask.ensures ∙ c.mask.ensures)) in
     let few = few_colours m known in
     let w : c.INDEX_BITS.result ≡ m.index_bits = c.INDEX_BITS.ensures ∙ g.M.Mode.index_bits_are in
-    let indexes = rw w at c.word.ensures ∙ tell_indexes m few a.ends a.p mask cs (λ (i : ℕ). get_or best.result i 0) told (2 ^ m.index_bits) (index_digit m known) in
-    let sum = c.sum.ensures ∙ tell_all m few a.ends a.p mask cs (λ (i : ℕ). get_or best.result i 0) told in
-    (λ t. record { indexes = indexes t; sum = sum t; p = a.p }) ∙ fixed-picked m (lawful_of m known) a.partition a.ends cs a.p (joined-same m known a.p)
+    let indexes = rw w at c.word.ensures ∙ tell_indexes m few ends p mask cs (λ (i : ℕ). get_or best.result i 0) told (2 ^ m.index_bits) (index_digit m known) in
+    let sum = c.sum.ensures ∙ tell_all m few ends p mask cs (λ (i : ℕ). get_or best.result i 0) told in
+    (λ t. record { indexes = indexes t; sum = sum t; p = p }) ∙ fixed-picked m (lawful_of m known) part ends cs p (joined-same m known p)

@@ -23,6 +23,8 @@ use Rattle.bptc_block.proofs.Merged.{block_found, fields_plain}
 use Rattle.finishing.specs.declared.Indices.{Indices}
 use Rattle.finishing.specs.Indices.{nearest_for}
 use Rattle.finishing.proofs.Finished.{finished_fields, finished_small, finished_error}
+use Rattle.finishing.proofs.words.finish.Given.{Over}
+use Rattle.finishing.proofs.words.finish.Goals.{After-nearest-found}
 use Rattle.finishing.proofs.words.finish.Goals as goal
 
 -- the words of what is found
@@ -66,25 +68,28 @@ module _ (px : List ℕ) (w : CandidateWords) (ends : length w.ends ≡ 4) (ok :
   finishes : (m : Mode) → mode_numbered w.mode ≡ m → (found : Indices) → found ≡ nearest_for m w.partition k.ends w.p (colours_of px) → Finishes px w m found
   finishes m own found is = rw is (subst (λ (m : Mode). Finishes px w m (nearest_for m w.partition k.ends w.p (colours_of px))) own finishes_own)
 
-pub nearest-found-requires-clause-stored : goal.nearest-found-requires-clause-stored
-nearest-found-requires-clause-stored g c = rw c.endpoints.ensures (stored c.args.pixels.now c.args.candidate (search rules) c.requires.accepted g.M.Mode.mode c.requires.own)
+-- so it finishes the candidate
+all_of : (g : Over) (c : After-nearest-found g) → Finishes c.args.pixels.now c.args.candidate.words g.M.Mode.mode c.nearest-found.result
+all_of g c =
+    let accepted = c.args.candidate.accepted in
+    finishes c.args.pixels.now c.args.candidate.words (search rules) accepted g.M.Mode.mode c.requires.own c.nearest-found.result
+    (rw (c.new.ensures, c.endpoints.ensures) at c.nearest-found.ensures)
 
-pub nearest-found-requires-clause-inside : goal.nearest-found-requires-clause-inside
-nearest-found-requires-clause-inside g c = omega (arith, c.from.ensures, (fit c.args.pixels.now c.args.candidate (search rules) c.requires.accepted).partition)
+pub new-requires : goal.new-requires
+new-requires g c =
+    rw c.endpoints.ensures (stored c.args.pixels.now c.args.candidate.words (search rules) c.args.candidate.accepted g.M.Mode.mode c.requires.own)
+
+pub invariant_of-query : goal.invariant_of-query
+invariant_of-query g c = record { inside = (fit c.args.pixels.now c.args.candidate.words (search rules) c.args.candidate.accepted).partition }
 
 pub write_words-requires-clause-plain : goal.write_words-requires-clause-plain
-write_words-requires-clause-plain g c =
-    (finishes c.args.pixels.now c.args.candidate (search rules) c.requires.accepted g.M.Mode.mode c.requires.own c.nearest-found.result (rw (c.from.ensures, c.endpoints.ensures) at c.nearest-found.ensures)).plain
+write_words-requires-clause-plain g c = (all_of g (goal.at.write_words-requires-clause-plain g c).After-nearest-found).plain
 
 pub write_words-requires-clause-list : goal.write_words-requires-clause-list
-write_words-requires-clause-list g c =
-    (finishes c.args.pixels.now c.args.candidate (search rules) c.requires.accepted g.M.Mode.mode c.requires.own c.nearest-found.result (rw (c.from.ensures, c.endpoints.ensures) at c.nearest-found.ensures)).list
+write_words-requires-clause-list g c = (all_of g (goal.at.write_words-requires-clause-list g c).After-nearest-found).list
 
 pub returns-clause-error : goal.returns-clause-error
-returns-clause-error g c =
-    (finishes c.args.pixels.now c.args.candidate (search rules) c.requires.accepted g.M.Mode.mode c.requires.own c.nearest-found.result (rw (c.from.ensures, c.endpoints.ensures) at c.nearest-found.ensures)).error
+returns-clause-error g c = (all_of g (goal.at.returns-clause-error g c).After-nearest-found).error
 
 pub returns-clause-part : goal.returns-clause-part
-returns-clause-part g c =
-    c.write_words.ensures
-    ∙ (finishes c.args.pixels.now c.args.candidate (search rules) c.requires.accepted g.M.Mode.mode c.requires.own c.nearest-found.result (rw (c.from.ensures, c.endpoints.ensures) at c.nearest-found.ensures)).block
+returns-clause-part g c = c.write_words.ensures ∙ (all_of g (goal.at.returns-clause-part g c).After-nearest-found).block

@@ -1,14 +1,11 @@
 -- `key_numbers::columns::interleaved` meets its contract. The invariant: the first j colours of each row are written.
-use borrow.Author.Rules.{rules}
 use native.Mathlib.Omega.{arith}
 use Prim.Native.Nat.{ℕ, ◌+◌, ◌*◌, ◌<◌}
 use native.Mathlib.Nat.{add-zero}
-use mathlib.Core.Path.{◌≡◌, refl, sym, ap₂, ◌∙◌}
+use mathlib.Core.Path.{◌≡◌, sym, ap₂}
 use mathlib.Core.List.{List, [], ◌∷◌}
 use lib.Arith.{digits_div, digits_mod}
 use lib.ListN.{get_or, replicate}
-use Rattle.lists.specs.Rows.{written}
-use Rattle.lists.proofs.Rows.{written_all}
 use Rattle.bptc.specs.declared.Colour.{Colour}
 use Rattle.key_numbers.specs.Numbers.{row_word, column_words}
 use Rattle.lists.proofs.Writing.{written-four}
@@ -19,25 +16,13 @@ column : (a b c d : List Colour) (j k : ℕ) → k < 4 → column_words a b c d 
 unfolding column_words
 column a b c d j k h = ap₂ (λ (m n : ℕ). row_word (get_or (a ∷ (b ∷ (c ∷ (d ∷ [])))) m []) n) (digits_mod j h) (digits_div j h)
 
-pub loop-j-init : goal.loop-j-init
-unfolding written
-loop-j-init c = (search rules, refl)
-
 pub loop-j-preserved : goal.loop-j-preserved
 loop-j-preserved c =
     let at = c.loop-j in
     let r = c.args in
     let next : (at.j + 1) * 4 ≡ at.j * 4 + 4 = omega arith in
     let one : (k : ℕ) → k < 4 → row_word (get_or (r.a ∷ (r.b ∷ (r.c ∷ (r.d ∷ [])))) k []) at.j ≡ column_words r.a r.b r.c r.d (at.j * 4 + k) =
-    λ k h. sym (column r.a r.b r.c r.d at.j k h) in (
-      search rules,
-      rw (at.invariant.1, next)
-          (written-four (column_words r.a r.b r.c r.d) (replicate 16 0) (at.j * 4) _ _ _ _ (omega arith)
-          (rw add-zero at (one 0 (omega arith))) (one 1 (omega arith)) (one 2 (omega arith)) (one 3 (omega arith))),
-    )
-
-pub returns : goal.returns
-returns c =
-    let at = c.loop-j in
-    let e : at.j ≡ 4 = omega arith in
-    rw e at at.invariant.1 ∙ written_all 0 _ (replicate 16 0) 16 refl
+    λ k h. sym (column r.a r.b r.c r.d at.j k h) in
+    rw (at.invariant, next)
+    (written-four (column_words r.a r.b r.c r.d) (replicate 16 0) (at.j * 4) _ _ _ _ (omega arith)
+    (rw add-zero at (one 0 (omega arith))) (one 1 (omega arith)) (one 2 (omega arith)) (one 3 (omega arith)))

@@ -1,5 +1,5 @@
 -- `key_numbers::rows::flat` meets its contract. The invariant: the first k places of each half are written.
-use Prim.Native.Nat.{ℕ, ◌-◌, ◌≤◌}
+use Prim.Native.Nat.{ℕ}
 use mathlib.Core.Path.{◌≡◌}
 use mathlib.Core.List.{List, ◌++◌}
 use lib.ListN.{get_or, replicate}
@@ -13,4 +13,4 @@ number row k = (get_or row k (record { 0 = 0 })).0
 
 abbrev pub invariant-loop-k : goal.invariant-loop-k
 invariant-loop-k l =
-    (l.k ≤ 8) × (l.out ≡ written (number l.p0) l.k (replicate 8 0) ++ written (number l.p1) l.k (replicate 8 0))
+    l.out ≡ written (number l.p0) l.k (replicate 8 0) ++ written (number l.p1) l.k (replicate 8 0)

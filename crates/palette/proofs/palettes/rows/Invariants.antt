@@ -1,5 +1,5 @@
 -- `palette::palettes::rows` meets its contract. The invariant: the first k colours of each row are written.
-use Prim.Native.Nat.{ℕ, ◌-◌, ◌≤◌}
+use Prim.Native.Nat.{ℕ, ◌≤◌}
 use mathlib.Core.Path.{◌≡◌}
 use mathlib.Core.List.{List}
 use lib.ListN.{get_or, replicate}

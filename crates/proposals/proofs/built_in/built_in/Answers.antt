@@ -1,27 +1,16 @@
 -- `proposals::built_in::built_in` meets its contract.
-use Rattle.std.proofs.Common.{◌≡◌, refl, sym, ap, ◌∙◌, arith}
-use Rattle.lists.specs.Parts.{joined}
+use Rattle.std.proofs.Common.{◌≡◌, sym, ap, ◌∙◌, arith}
 use Rattle.chooser.specs.declared.Chooser.{Chooser}
-use Rattle.chooser.specs.Calls.{after}
 use Rattle.corners.specs.Corners.{planes_of}
 use Rattle.proposals.specs.BuiltIn.{proposals_to, proposals_of}
-use Rattle.proposals.proofs.Offering.{after-pixels, proposals_next}
+use Rattle.proposals.proofs.Offering.{after-pixels}
 use Rattle.proposals.proofs.built_in.built_in.Goals as goal
-
-pub loop-partition-init : goal.loop-partition-init
-unfolding after joined
-loop-partition-init c = refl
 
 pub offer_both-held-requires : goal.offer_both-held-requires
 offer_both-held-requires c =
     let at = c.loop-partition in
     let ch = c.args.ch in
     c.of-planes.ensures ∙ ap planes_of (sym (ap (λ (h : Chooser). h.pixels) at.invariant ∙ after-pixels (proposals_to ch.pixels at.partition) ch))
-
-pub loop-partition-preserved : goal.loop-partition-preserved
-loop-partition-preserved c =
-    let at = c.loop-partition in
-    c.offer_both-held.ensures ∙ proposals_next c.args.ch at.held at.partition at.invariant
 
 pub returns : goal.returns
 unfolding proposals_of
