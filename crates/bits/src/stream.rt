@@ -98,8 +98,9 @@ pub(crate) fn write_fields<M: Mode>(w: Words) -> u128
     own.write_u64(w.indexes, 16 * M::INDEX_BITS - 2).data
 }
 
-// The eight bytes of a number into half a block, the lowest first. Out of line the compiler makes one word of them, and packing takes
-// 191 instructions; in line it takes each byte out of its field, 232, and by `to_le_bytes` and `copy_from_slice` it copies them too, 283.
+// The eight bytes of a number into half a block, the lowest first; a slice of eight, as a half of an array is one. Out of line the compiler
+// makes one word of them, and packing takes 191 instructions; in line it takes each byte out of its field, 232, and by `to_le_bytes` and
+// `copy_from_slice` it copies them too, 283.
 #[inline(never)]
 fn write_half(n: u64, half: &mut [u8])
     requires { length half.old ≡ 8 }

@@ -20,7 +20,7 @@ pub(crate) enum Name {
 }
 
 impl Name {
-    // The command of this name.
+    // The command of this name. No `FromStr`, since a word need be no text.
     fn of(word: &[u8]) -> Option<Name> {
         match word {
             b"bake" => Some(Name::Bake),

@@ -30,6 +30,7 @@ fn end_shown(width: Width, p_bits: u32, ends: [Rgb; 4], p: u8, k: usize) -> Rgb
 // Requires no more colours than a row has, which has eight places in either mode, and weights in parts of 256. The loop has an index, since
 // it writes both rows.
 #[inline(always)]
+#[tactic(auto, unfolding(lists::specs::Rows::written))]
 pub fn rows(weights: &[u16; 8], colours: usize, e: [Rgb; 4]) -> [[Colour; 8]; 2]
     requires few { colours ≤ 8 }
     requires light { (k : ℕ) → k < colours → get_or weights.now k 0 ≤ 256 }

@@ -95,6 +95,7 @@ impl Partition {
     }
 
     // The subset of a pixel. Requires one of the sixteen, as the place in an array that a loop counts.
+    #[tactic(auto, unfolding(bptc::specs::Partition::subset_of))]
     pub fn subset(self, pixel: usize) -> u8
         requires { pixel < 16 }
         ensures { result ≡ subset_of self.number pixel }
@@ -178,6 +179,7 @@ impl Partition {
     }
 
     // How many pixels lie in subset 1.
+    #[tactic(auto, using(lists::proofs::Digits::ones_is, bptc::proofs::PartitionRule::placed), unfolding(bptc::specs::Partition::size_of))]
     pub fn size(self) -> u32
         ensures { result ≡ size_of self.number }
     {

@@ -79,14 +79,14 @@ impl<'a> Input<'a> {
     }
 
     // Its length.
-    pub(crate) fn length(&self) -> Result<u64, Failure<'a>> {
+    pub fn length(&self) -> Result<u64, Failure<'a>> {
         let mut file = &self.file;
         file.seek(SeekFrom::End(0))
             .map_err(|_| self.failure(InputMistake::NoLength))
     }
 
     // Goes to a place of it.
-    pub(crate) fn go_to(&self, place: u64) -> Result<(), Failure<'a>> {
+    pub fn go_to(&self, place: u64) -> Result<(), Failure<'a>> {
         let mut file = &self.file;
         match file.seek(SeekFrom::Start(place)) {
             Ok(_) => Ok(()),

@@ -85,7 +85,7 @@ impl<'a> Photo<'a> {
     }
 
     // Goes to the first pixel.
-    pub(crate) fn rewind(&self) -> Result<(), Failure<'a>> {
+    pub fn rewind(&self) -> Result<(), Failure<'a>> {
         self.input.go_to(self.pixels)
     }
 

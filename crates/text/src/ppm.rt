@@ -228,6 +228,7 @@ impl NewHeader {
     }
 }
 
+// The same text, where it is written to what can fail.
 impl fmt::Display for NewHeader {
     ghost output = { λ header. Some (header_text header.width header.height) };
 

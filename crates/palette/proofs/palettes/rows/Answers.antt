@@ -21,16 +21,6 @@ row_is : (weights : List ℕ) (a b : Rgb) (k : ℕ) → row_to weights a b k ≡
 unfolding blended_row pixel_word
 row_is weights a b k = sym (map-written colour (λ (i : ℕ). both (blend (get_or weights i 0)) a b) k (replicate 8 black))
 
-pub loop-k-init : goal.loop-k-init
-unfolding written
-loop-k-init c = (search rules, refl, refl)
-
-pub interpolate_rgb-requires : goal.interpolate_rgb-requires
-interpolate_rgb-requires c = c.requires.light c.loop-k.k (search rules)
-
-pub interpolate_rgb-requires-in-loop-k : goal.interpolate_rgb-requires-in-loop-k
-interpolate_rgb-requires-in-loop-k c = c.requires.light c.loop-k.k (search rules)
-
 pub loop-k-preserved : goal.loop-k-preserved
 loop-k-preserved c =
     let at = c.loop-k in (
