@@ -7,7 +7,7 @@ use block::{Candidate, PBits, Rgb};
 use chooser::Chooser;
 use std::array;
 
-// A candidate with fixed p-bits from a drawn byte, and endpoints that show nearly twelve drawn bytes.
+// A candidate with fixed p-bits from a drawn byte, and endpoints that show nearly twelve drawn bytes, by a line for each field of `Rgb`.
 pub(crate) fn near(mode: Mode, partition: u8, channels: [u8; 12], p: u8) -> Candidate {
     Candidate {
         mode: u8::from(mode),

@@ -14,7 +14,7 @@ pub(crate) fn changed(part: &[u8]) -> usize {
     count_other(part, KEPT)
 }
 
-// An endpoint with every channel the same.
+// An endpoint with every channel the same. The other program of checks has its own, as the two share no crate of theirs.
 fn grey(channel: u8) -> Rgb {
     Rgb {
         r: channel,

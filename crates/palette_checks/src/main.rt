@@ -36,7 +36,7 @@ impl fmt::Display for Digits {
     }
 }
 
-// A colour with three equal channels.
+// A colour with three equal channels. The other program of checks has its own, as the two share no crate of theirs.
 fn grey(v: u8) -> Rgb
     ensures { result ≡ record { r = v; g = v; b = v } }
 {

@@ -18,7 +18,7 @@ pub(crate) struct Pair<'a> {
 }
 
 impl<'a> Pair<'a> {
-    // Opens a photograph and its plate.
+    // Opens a photograph and its plate, by their paths, which are arguments of the commands and are handed on once.
     pub(crate) fn open(
         rt: &HostRuntime,
         photo_path: &'a [u8],

@@ -88,7 +88,8 @@ impl fmt::Display for OutputMistake<'_> {
     }
 }
 
-// Refuses to replace an open file that is no regular one, or one of the inputs.
+// Refuses to replace an open file that is no regular one, or one of the inputs. With `replaceable` a step of `create`, whose path and inputs
+// both take.
 fn check_old<'a>(path: &'a [u8], old: File, inputs: &[Option<FileId>]) -> Result<(), Failure<'a>> {
     let old = Input::of(path, old)?;
     let id = old.id();

@@ -11,7 +11,7 @@ use corners::{Boxes, Planes};
 use palette::{Mode, Mode1, Mode3};
 use partitions::mask;
 
-// A colour as a mode stores it: the highest bits of each channel.
+// A colour as a mode stores it: the highest bits of each channel, by a line for each field of `Rgb`.
 fn stored<M: Mode>(c: Rgb) -> Rgb
     ensures { result ≡ stored_in M.mode.number c }
 {
