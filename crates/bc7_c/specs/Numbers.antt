@@ -12,28 +12,25 @@ use Rattle.bptc_block.specs.Fields.{p_bits_of}
 unfoldable pub end_of : ℕ → Rgb
 end_of n = record { r = n % 256; g = n / 256 % 256; b = n / 65536 }
 
--- four of them
-abbrev pub ends_of : ℕ → ℕ → ℕ → ℕ → List Rgb
-ends_of e0 e1 e2 e3 = end_of e0 ∷ end_of e1 ∷ end_of e2 ∷ end_of e3 ∷ []
-
 -- sixteen indices of four bits each, that of pixel 0 lowest
 abbrev pub indices_of : ℕ → List ℕ
 indices_of n = split (replicate 16 4) n
 
--- a candidate
-abbrev pub candidate_of : ℕ → ℕ → ℕ → ℕ → ℕ → ℕ → ℕ → ℕ → Candidate
-candidate_of mode partition e0 e1 e2 e3 p free = record { mode = mode; partition = partition; ends = ends_of e0 e1 e2 e3; p = p_bits_of p free }
-
--- what `pack` is handed besides the mode
-abbrev pub packed_of : ℕ → ℕ → ℕ → ℕ → ℕ → ℕ → ℕ → Fields
-packed_of partition e0 e1 e2 e3 p indices = record { partition = partition; ends = ends_of e0 e1 e2 e3; p = p; indices = indices_of indices }
-
--- the same with the endpoints as one list
+-- a candidate, with its endpoints as one list
 abbrev pub candidate_at : ℕ → ℕ → List ℕ → ℕ → ℕ → Candidate
 candidate_at mode partition ends p free = record { mode = mode; partition = partition; ends = map end_of ends; p = p_bits_of p free }
 
+-- and one by one
+abbrev pub candidate_of : ℕ → ℕ → ℕ → ℕ → ℕ → ℕ → ℕ → ℕ → Candidate
+candidate_of mode partition e0 e1 e2 e3 p free = candidate_at mode partition (e0 ∷ e1 ∷ e2 ∷ e3 ∷ []) p free
+
+-- what `pack` is handed besides the mode, with its endpoints as one list
 abbrev pub packed_at : ℕ → List ℕ → ℕ → ℕ → Fields
 packed_at partition ends p indices = record { partition = partition; ends = map end_of ends; p = p; indices = indices_of indices }
+
+-- and one by one
+abbrev pub packed_of : ℕ → ℕ → ℕ → ℕ → ℕ → ℕ → ℕ → Fields
+packed_of partition e0 e1 e2 e3 p indices = packed_at partition (e0 ∷ e1 ∷ e2 ∷ e3 ∷ []) p indices
 
 -- a refusal and an error as one number, the error in the 32 lowest bits
 unfoldable pub answered : ℕ → ℕ → ℕ
