@@ -13,7 +13,7 @@ use Rattle.lists.specs.Bytes.{Bytes, bytes, number}
 use Rattle.lists.proofs.Rows.{listed}
 use Rattle.lists.proofs.Bytes.{byte_lt, length-bytes, bytes-bytes, number-bytes, bytes-number, number-four}
 use Rattle.bptc.specs.declared.Rgb.{Rgb}
-use Rattle.bptc.specs.Colour.{black, bytes_of}
+use Rattle.bptc.specs.Internal.Colour.{black, bytes_of}
 use Rattle.bptc_block.specs.Answers.{BlockRead}
 use Rattle.chooser.specs.declared.Chooser.{Chooser}
 use Rattle.bc7_c.specs.Parts.{chooser_bytes, chooser_in, head_bytes}

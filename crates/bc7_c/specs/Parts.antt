@@ -1,7 +1,7 @@
 -- The lent parts that hold more than a call's pixels and blocks: a chooser, and the fields of a reading.
 use Rattle.std.specs.Prelude.{ℕ, List, [], ◌∷◌, ◌++◌, take, drop}
 use Rattle.lists.specs.Bytes.{bytes, number}
-use Rattle.bptc.specs.Colour.{bytes_of}
+use Rattle.bptc.specs.Internal.Colour.{bytes_of}
 use Rattle.bptc_block.specs.Answers.{BlockRead}
 use Rattle.chooser.specs.declared.Chooser.{Chooser}
 

@@ -2,15 +2,15 @@
 use Rattle.std.specs.Prelude.{◌≡◌, [], ◌∷◌, ◌++◌, Ok, Err, replicate}
 use Rattle.refusals.specs.declared.Refusal.TheVariants.{Mode}
 use Rattle.bptc_block.specs.declared.PBits.TheVariants.{Free, Fixed}
-use Rattle.bc7_c.specs.Numbers.{end_of, indices_of, candidate_of, numbered}
+use Rattle.bc7_c.specs.Numbers.{end_in, indices_of, candidate_of, numbered}
 use Rattle.bc7_c.specs.Parts.{chooser_bytes, field_bytes}
 
 -- what each definition gives
 pub record Worked : Type 0 where
   -- an endpoint: red + 256 × green + 65536 × blue
-  pub endpoint : end_of 0x030201 ≡ record { r = 1; g = 2; b = 3 }
+  pub endpoint : end_in 0x030201 ≡ record { r = 1; g = 2; b = 3 }
   -- with a bit above its third byte, a channel that no mode has
-  pub above : end_of 0x1000000 ≡ record { r = 0; g = 0; b = 256 }
+  pub above : end_in 0x1000000 ≡ record { r = 0; g = 0; b = 256 }
   -- sixteen indices of four bits each, that of pixel 0 lowest
   pub indices :
       indices_of 0xfedcba9876543210

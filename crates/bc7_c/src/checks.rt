@@ -2,7 +2,8 @@
 ghost use Rattle.std.specs.Prelude.{◌≡◌, ◌-◌, ◌*◌, ◌^◌, eqb, replicate, MatchResult};
 ghost use Rattle.lists.specs.Tests.{pick};
 ghost use Rattle.refusals.specs.Numbers.{number_of, declined};
-ghost use Rattle.bptc_block.specs.Fields.{word_candidate};
+ghost use Rattle.bptc.specs.Mode.{p_bits as p_bits_in};
+ghost use Rattle.bptc_block.specs.Internal.Words.{word_candidate};
 ghost use Rattle.bptc_block.specs.Refusal.{check_candidate, check_indices};
 ghost use Rattle.bptc_block.specs.PackCall.{fixed_at};
 ghost use Rattle.bc7_c.specs.Numbers.{indices_of, packed_at, candidate_at};
@@ -57,7 +58,7 @@ impl Numbers {
     // The partition, the endpoints, the p-bits and the indices, by the masks and the greatest p-bits of the mode: not by the checks of
     // `block`, as endpoints and indices stand packed here, and a mask tests all of their fields at once.
     fn check_masked<M: Mode>(self, indices: u64) -> Result<(), Refusal>
-        ensures { declined result ≡ check_masked (above end_widths M.mode.channel_bits) (2 ^ M.mode.p_bits - 1) (above (replicate 16 4) M.mode.index_bits) self.partition self.ends self.p indices }
+        ensures { declined result ≡ check_masked (above end_widths M.mode.channel_bits) (2 ^ p_bits_in M.mode - 1) (above (replicate 16 4) M.mode.index_bits) self.partition self.ends self.p indices }
     {
         if self.partition > 63 {
             return Err(Refusal::Partition);
@@ -75,7 +76,6 @@ impl Numbers {
     }
 
     // The mode, and then what `check_masked` checks.
-    #[tactic(auto, unfolding(bptc_block::specs::Refusal::check_candidate))]
     pub(crate) fn check_pack(self, indices: u64) -> Result<(), Refusal>
         ensures { declined result ≡ check_candidate (fixed_at self.mode (packed_at self.partition self.ends self.p indices)) (check_indices self.mode (indices_of indices) 0) }
     {

@@ -15,7 +15,7 @@ use crate::numbers::{answer, numbered};
 use crate::parts::{chooser_in, write_chooser, write_fields};
 use bits::writing::write_narrowed;
 use block::{measure, read};
-use bptc_block::Words;
+use bptc_block::FieldWords;
 use chooser::Chooser;
 use finishing::words::finish_words;
 use palette::{Mode1, Mode3};
@@ -40,7 +40,7 @@ fn pack(numbers: Numbers, indices: u64, block: &mut [u8]) -> Result<(), Refusal>
     numbers.check_pack(indices)?;
     let ends = numbers.ends;
     // narrows numbers that the checks accept, where `try_from` would have a case that cannot come
-    let w = Words {
+    let w = FieldWords {
         partition: numbers.partition as u8,
         ends,
         p: numbers.p as u8,

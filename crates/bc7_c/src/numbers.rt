@@ -1,6 +1,6 @@
 // The numbers of C as the calls take them and give them.
 ghost use Rattle.std.specs.Prelude.{◌≡◌, ◌<◌};
-ghost use Rattle.bptc_block.specs.Fields.{p_bits_of};
+ghost use Rattle.bptc_block.specs.Internal.Words.{p_bits_of};
 ghost use Rattle.bc7_c.specs.Numbers.{answered, numbered};
 
 use bptc_block::PBits;

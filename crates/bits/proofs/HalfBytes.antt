@@ -8,7 +8,7 @@ use borrow.Rule.Slice.PartMut.{put_mid}
 use lib.ListN.{length, get_or, drop, length-append, length-drop, drop_of_length-le}
 use lib.Seq.{take-append_seam}
 use Rattle.lists.specs.Rows.{up_from}
-use Rattle.lists.specs.Bits.{halves}
+use Rattle.lists.specs.Internal.Fields.{halves}
 use Rattle.lists.specs.Bytes.{bytes}
 use Rattle.lists.proofs.Rows.{each_same, listed}
 use Rattle.lists.proofs.Bytes.{bytes-at, length-bytes}

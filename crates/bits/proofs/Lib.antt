@@ -1,1 +1,2 @@
 pub mod HalfBytes
+pub mod FewBits

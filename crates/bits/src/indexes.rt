@@ -2,7 +2,7 @@
 ghost use Rattle.std.specs.Prelude.{◌≡◌, ℕ, ◌+◌, ◌-◌, ◌*◌, ◌/◌, ◌^◌, ◌<◌, ◌≤◌, get_or, replicate};
 ghost use Rattle.std.specs.Int.Bits.{bit_and, bit_or};
 ghost use Rattle.lists.specs.Bits.{split};
-ghost use Rattle.bptc.specs.Partition.{entry_of};
+ghost use Rattle.bptc.specs.Internal.Masks.{entry_of};
 ghost use Rattle.bptc_rust.specs.IndexList.{index_list};
 ghost use Rattle.bptc_rust.specs.CompressedIndexList.{ensure_msb_zero, compress_single_index, compress_p2};
 ghost use Rattle.bptc_rust.specs.Subset2Map.{PARTITION-SET-2};

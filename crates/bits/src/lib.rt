@@ -2,7 +2,7 @@
 #![tactic(auto)]
 
 pub use bptc::Rgb;
-pub use bptc_block::{Fields, Words};
+pub use bptc_block::{FieldWords, Fields};
 
 pub mod indexes;
 mod stream;

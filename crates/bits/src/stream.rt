@@ -2,14 +2,15 @@
 ghost use Rattle.std.specs.Prelude.{◌≡◌, [], ◌∷◌, ℕ, ◌+◌, ◌-◌, ◌*◌, ◌^◌, ◌<◌, ◌≤◌, map, get_or, length, replicate};
 ghost use Rattle.lists.specs.Bits.{join};
 ghost use Rattle.lists.specs.Bytes.{bytes};
-ghost use Rattle.bptc.specs.Colour.{black, Below};
-ghost use Rattle.bptc.specs.Pixels.{pixel_of};
-ghost use Rattle.bptc.specs.Shown.{Stored};
-ghost use Rattle.bptc_block.specs.Fields.{channel_values, front_widths, front_values};
+ghost use Rattle.bptc.specs.Internal.Colour.{black, Below};
+ghost use Rattle.bptc.specs.Internal.Pixels.{pixel_of};
+ghost use Rattle.bptc.specs.Internal.Shown.{Stored};
+ghost use Rattle.bptc.specs.Mode.{p_bits};
+ghost use Rattle.bptc_block.specs.Internal.Front.{front_widths, rgb_values, front_values};
 
 use crate::writing::endpoints;
 use bptc::Rgb;
-use bptc_block::Words;
+use bptc_block::FieldWords;
 use palette::Mode;
 use palette::colour::Width;
 
@@ -71,7 +72,7 @@ impl BitStream {
     fn write_endpoints_rgb(self, width: Width, ends: [Rgb; 4]) -> BitStream
         requires channels { (k : ℕ) → k < 4 → Below (2 ^ width.bits) (get_or ends k black) }
         requires room { self.bits + 12 * width.bits ≤ 128 }
-        ensures same { result.data ≡ self.data + join (replicate 12 width.bits) (channel_values ends []) * 2 ^ self.bits }
+        ensures same { result.data ≡ self.data + join (replicate 12 width.bits) (rgb_values ends []) * 2 ^ self.bits }
         ensures place { result.bits ≡ self.bits + 12 * width.bits }
     {
         let [e0, e1, e2, e3] = ends;
@@ -82,12 +83,12 @@ impl BitStream {
 }
 
 // The bits of a block of a mode, with indexes that lack the top bits of the anchors': mode, partition, endpoints, p-bits and indexes.
-pub(crate) fn write_fields<M: Mode>(w: Words) -> u128
+pub(crate) fn write_fields<M: Mode>(w: FieldWords) -> u128
     requires inside { w.partition < 64 }
     requires stored { Stored M.mode (map pixel_of w.ends) }
-    requires own { w.p < 2 ^ M.mode.p_bits }
+    requires own { w.p < 2 ^ p_bits M.mode }
     requires rest { w.indexes < 2 ^ (16 * M.mode.index_bits - 2) }
-    ensures { result ≡ join (front_widths M.mode.number M.mode.channel_bits (M.mode.p_bits ∷ (16 * M.mode.index_bits - 2) ∷ [])) (front_values M.mode.number w.partition (map pixel_of w.ends) (w.p ∷ w.indexes ∷ [])) }
+    ensures { result ≡ join (front_widths M.mode.number M.mode.channel_bits (p_bits M.mode ∷ (16 * M.mode.index_bits - 2) ∷ [])) (front_values M.mode.number w.partition (map pixel_of w.ends) (w.p ∷ w.indexes ∷ [])) }
 {
     let number = u32::from(M::NUMBER);
     let ends = endpoints(w.ends);

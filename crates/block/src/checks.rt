@@ -1,11 +1,12 @@
 // The checks of the calls, in the order of the refusals.
 ghost use Rattle.std.specs.Prelude.{◌≡◌, ◌-◌, ◌^◌, leb, MatchResult};
 ghost use Rattle.std.specs.List.{list_all};
-ghost use Rattle.bptc.specs.Mode.{largest};
+ghost use Rattle.bptc.specs.Mode.{p_bits, largest};
 ghost use Rattle.refusals.specs.Numbers.{number_of, declined};
-ghost use Rattle.bptc_block.specs.Fields.{word_candidate};
+ghost use Rattle.bptc_block.specs.Internal.Words.{word_candidate};
 ghost use Rattle.bptc_block.specs.Packed.{mode_of};
-ghost use Rattle.bptc_block.specs.Refusal.{unless, within, in_range, p_in_range, check_stored, check_candidate, check_readable};
+ghost use Rattle.bptc_block.specs.Refusal.{unless, check_candidate, check_readable};
+ghost use Rattle.bptc_block.specs.Internal.RgbChecks.{within, in_range, p_in_range, check_stored};
 
 use bits::writing::words;
 use bptc::Rgb;
@@ -41,7 +42,7 @@ fn p_in_range(p: PBits, top: u8) -> bool
 // The partition, the endpoint channels and the p-bits, by the greatest that the mode has.
 #[tactic(auto, using(bptc_block::proofs::Answers::each_all))]
 pub(crate) fn check_stored<M: Mode>(partition: u8, ends: &[Rgb; 4], p: PBits) -> Result<(), Refusal>
-    ensures { declined result ≡ check_stored (2 ^ M.mode.channel_bits - 1) (2 ^ M.mode.p_bits - 1) partition ends.now p 0 }
+    ensures { declined result ≡ check_stored (2 ^ M.mode.channel_bits - 1) (2 ^ p_bits M.mode - 1) partition ends.now p 0 }
 {
     if partition > 63 {
         return Err(Refusal::Partition);
@@ -56,9 +57,8 @@ pub(crate) fn check_stored<M: Mode>(partition: u8, ends: &[Rgb; 4], p: PBits) ->
 }
 
 // The mode, and then what `check_stored` checks.
-#[tactic(auto, unfolding(bptc_block::specs::Refusal::check_candidate))]
-pub fn check_candidate(c: &Candidate) -> Result<(), Refusal>
-    ensures { declined result ≡ check_candidate c.now 0 }
+fn check_candidate(c: Candidate) -> Result<(), Refusal>
+    ensures { declined result ≡ check_candidate c 0 }
 {
     // by number, as any is handed in: the form that the specification names
     match c.mode {
@@ -69,11 +69,11 @@ pub fn check_candidate(c: &Candidate) -> Result<(), Refusal>
 }
 
 // The words of a candidate that `check_candidate` accepts, made here alone.
-#[tactic(auto, using(bptc_block::proofs::Refusals::good, bptc_block::proofs::WordEnds::candidate_again))]
+#[tactic(auto, using(bptc_block::proofs::WordEnds::accepted_again))]
 pub fn accepted(c: Candidate) -> Result<Accepted, Refusal>
     ensures { MatchResult result (λ a. word_candidate a.words ≡ c) (λ r. number_of r ≡ check_candidate c 0) }
 {
-    check_candidate(&c)?;
+    check_candidate(c)?;
     Ok(Accepted {
         words: CandidateWords {
             mode: c.mode,

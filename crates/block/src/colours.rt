@@ -1,6 +1,7 @@
 // The colours that fields show.
-ghost use Rattle.std.specs.Prelude.{◌≡◌};
-ghost use Rattle.bptc_block.specs.Fields.{Plain};
+ghost use Rattle.std.specs.Prelude.{◌≡◌, map};
+ghost use Rattle.bptc.specs.Colour.{with_alpha};
+ghost use Rattle.bptc_block.specs.Fields.{block_fields, Plain};
 ghost use Rattle.bptc_block.specs.Chapter.{colours};
 
 use bptc::Rgb;
@@ -11,8 +12,8 @@ use partitions::Partition;
 
 // The sixteen colours of fields. Requires that they are in range.
 pub(crate) fn colours<M: Mode>(f: Fields) -> [Rgb; 16]
-    requires { Plain M.mode f }
-    ensures { result ≡ colours M.mode f }
+    requires { Plain M.mode (block_fields f) }
+    ensures { map (with_alpha 255) result ≡ colours M.mode (block_fields f) }
 {
     let rows = Ends::<M>::new(f.ends).palettes(f.p);
     let partition = Partition {

@@ -1,11 +1,11 @@
 // Packing, finishing, reading and measuring BC7 blocks of modes 1 and 3.
 #![tactic(auto)]
 
-ghost use Rattle.std.specs.Prelude.{◌≡◌, get_or};
-ghost use Rattle.lists.specs.Rows.{over_pixels};
-ghost use Rattle.bptc.specs.Colour.{black, bytes_of, colours_of, dist_sq};
+ghost use Rattle.std.specs.Prelude.{◌≡◌};
+ghost use Rattle.bptc.specs.Colour.{pixels_of, pixel_bytes, squared_distance};
+ghost use Rattle.bptc_block.specs.Fields.{rgb_fields};
 ghost use Rattle.bptc_block.specs.Packed.{fields_of};
-ghost use Rattle.bptc_block.specs.Chapter.{colours};
+ghost use Rattle.bptc_block.specs.Chapter.{colours, apart};
 ghost use Rattle.refusals.specs.Numbers.{declined};
 ghost use Rattle.bptc_block.specs.Answers.{finished, measured, block_read};
 ghost use Rattle.bptc_block.specs.PackCall.{pack_of, pack_into};
@@ -74,10 +74,9 @@ pub fn finish(pixels: &[u8], candidate: Candidate, block: &mut [u8]) -> Result<u
 }
 
 // The fields of a block of the mode, and its colours into the lent pixels.
-#[tactic(auto, using(bptc_block::proofs::Widths::plain_of, bptc_block::proofs::Packed::well_formed))]
 fn read_as<M: Mode>(block: &[u8; 16], pixels: &mut [u8; 48]) -> Fields
-    ensures fields { result ≡ fields_of M.mode block.now }
-    ensures part { pixels.new ≡ bytes_of (colours M.mode (fields_of M.mode block.now)) }
+    ensures fields { result ≡ rgb_fields (fields_of M.mode block.now) }
+    ensures part { pixels.new ≡ pixel_bytes 3 (colours M.mode (fields_of M.mode block.now)) }
 {
     let fields = fields::<M>(block);
     write_pixels(&colours::<M>(fields), pixels);
@@ -85,7 +84,7 @@ fn read_as<M: Mode>(block: &[u8; 16], pixels: &mut [u8; 48]) -> Fields
 }
 
 // Reads a block: its mode and fields, and its sixteen colours into the lent pixels.
-#[tactic(auto, using(bptc_block::proofs::Answers::read_err, bptc_block::proofs::Answers::read_rest, bptc_block::proofs::Answers::read_ok, bptc_block::proofs::Answers::read_written))]
+#[tactic(auto, using(bptc_block::proofs::Answers::read_err, bptc_block::proofs::Answers::read_rest, bptc_block::proofs::Answers::read_ok, bptc_block::proofs::Answers::read_written, bptc::proofs::Modes::is_first, bptc::proofs::Modes::not_first))]
 pub fn read(block: &[u8], pixels: &mut [u8]) -> Result<Reading, Refusal>
     ensures answer { block_read result ≡ read_of block.now pixels.old }
     ensures part { pixels.new ≡ read_into block.now pixels.old }
@@ -106,16 +105,15 @@ pub fn read(block: &[u8], pixels: &mut [u8]) -> Result<Reading, Refusal>
 }
 
 // The distance between pixels and a block of the mode.
-#[tactic(auto, using(bptc_block::proofs::Widths::plain_of, bptc_block::proofs::Packed::well_formed))]
 fn measure_as<M: Mode>(block: &[u8; 16], pixels: &[u8; 48]) -> u32
-    ensures { result ≡ over_pixels (λ i. dist_sq (get_or (colours_of pixels.now) i black) (get_or (colours M.mode (fields_of M.mode block.now)) i black)) }
+    ensures { result ≡ apart squared_distance M.mode (pixels_of 3 pixels.now) (fields_of M.mode block.now) }
 {
     distance(&colours::<M>(fields::<M>(block)), pixels)
 }
 
 // Measures a block: the summed squared distance between pixels and the block as the chapter reads it. The checks are those of `read`, over
 // pixels that are not written.
-#[tactic(auto, using(bptc_block::proofs::Answers::measure_err, bptc_block::proofs::Answers::read_rest, bptc_block::proofs::Answers::measure_ok))]
+#[tactic(auto, using(bptc_block::proofs::Answers::measure_err, bptc_block::proofs::Answers::read_rest, bptc_block::proofs::Answers::measure_ok, bptc::proofs::Modes::is_first, bptc::proofs::Modes::not_first))]
 pub fn measure(block: &[u8], pixels: &[u8]) -> Result<u32, Refusal>
     ensures { measured result ≡ measure_of block.now pixels.now }
 {

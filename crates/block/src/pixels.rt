@@ -1,7 +1,7 @@
 // The sixteen pixels of a block: sixteen colours written into them, and their distance from sixteen colours.
 ghost use Rattle.std.specs.Prelude.{◌≡◌, get_or};
 ghost use Rattle.lists.specs.Rows.{over_pixels};
-ghost use Rattle.bptc.specs.Colour.{black, colours_of, bytes_of, dist_sq};
+ghost use Rattle.bptc.specs.Internal.Colour.{black, colours_of, bytes_of, dist_sq};
 
 use bptc::Rgb;
 use palette::colour::dist_sq;

@@ -7,8 +7,9 @@ use mathlib.Core.List.{List, [], ◌∷◌}
 use lib.ListN.{get_or, length}
 use Rattle.lists.specs.Bytes.{Bytes}
 use Rattle.bptc.specs.declared.Rgb.{Rgb}
-use Rattle.bptc.specs.Pixels.{pixel_word, pixel_of}
-use Rattle.bptc.specs.Colour.{black, Below, colours_of, pixel_in, bytes_of, sq_diff, dist_sq}
+use Rattle.bptc.specs.Internal.Pixels.{pixel_word, pixel_of}
+use Rattle.bptc.specs.Internal.Colour.{rgb_at, black, Below, colours_of, bytes_of, dist_sq}
+use Rattle.bptc.specs.Colour.{sq_diff}
 
 -- colours with the same channels
 pub rgb_eq : {r r' g g' b b' : ℕ} → r ≡ r' → g ≡ g' → b ≡ b' → ◌≡◌ {A = Rgb} (record { r = r; g = g; b = b }) (record { r = r'; g = g'; b = b' })
@@ -28,7 +29,7 @@ pixels-shown (r ∷ (g ∷ (b ∷ bs))) h zero = record { r = h 0 (omega arith);
 pixels-shown (r ∷ (g ∷ (b ∷ bs))) h (suc i) = pixels-shown bs (λ k l. h (suc (suc (suc k))) (omega arith)) i
 
 -- the colour at place i
-pub colour-at : (px : List ℕ) (i : ℕ) → i * 3 + 2 < length px → get_or (colours_of px) i black ≡ pixel_in px i
+pub colour-at : (px : List ℕ) (i : ℕ) → i * 3 + 2 < length px → get_or (colours_of px) i black ≡ rgb_at px i
 unfolding colours_of
 colour-at [] i h = absurd (omega arith)
 colour-at (r ∷ []) i h = absurd (omega arith)

@@ -6,4 +6,7 @@ pub mod Modes
 pub mod Largest
 pub mod Shading
 pub mod NearestIndex
-pub mod SamePalette
+pub mod Colours
+pub mod Opaque
+pub mod Pixels
+pub mod Palettes

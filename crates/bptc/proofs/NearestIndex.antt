@@ -10,12 +10,13 @@ use Rattle.lists.proofs.Least.{least-all, least-keeps}
 use Rattle.lists.proofs.Rows.{up_from_has, up_from-below}
 use Rattle.bptc.specs.declared.Rgb.{Rgb}
 use Rattle.bptc.specs.Mode.{Mode, largest}
-use Rattle.bptc.specs.Colour.{dist_sq}
-use Rattle.bptc.specs.Palette.{palette_at}
-use Rattle.bptc.specs.Nearest.{nearest_by, nearest}
+use Rattle.bptc.specs.Internal.Colour.{dist_sq}
+use Rattle.bptc.specs.Internal.Palette.{palette_colour}
+use Rattle.bptc.specs.Palette.{nearest_by}
+use Rattle.bptc.specs.Internal.Nearest.{nearest_rgb}
 
 -- by any distance
-module _ (distance : Rgb → Rgb → ℕ) (colour : ℕ → Rgb) (last : ℕ) (c : Rgb) where
+module _ {A : Type 0} (distance : A → A → ℕ) (colour : ℕ → A) (last : ℕ) (c : A) where
   -- no index has a nearer colour
   pub least_by : (i : ℕ) → i ≤ last → distance c (colour (nearest_by distance colour last c)) ≤ distance c (colour i)
   unfolding nearest_by
@@ -31,11 +32,11 @@ module _ (distance : Rgb → Rgb → ℕ) (colour : ℕ → Rgb) (last : ℕ) (c
 -- in the palette of a subset
 module _ (m : Mode) (ends : List Rgb) (p s : ℕ) (c : Rgb) where
   -- no index of the mode has a nearer colour
-  pub nearest-least : (i : ℕ) → i ≤ largest m → dist_sq c (palette_at m ends p s (nearest m ends p s c)) ≤ dist_sq c (palette_at m ends p s i)
-  unfolding nearest
-  nearest-least = least_by dist_sq (palette_at m ends p s) (largest m) c
+  pub nearest-least : (i : ℕ) → i ≤ largest m → dist_sq c (palette_colour m ends p s (nearest_rgb m ends p s c)) ≤ dist_sq c (palette_colour m ends p s i)
+  unfolding nearest_rgb
+  nearest-least = least_by dist_sq (palette_colour m ends p s) (largest m) c
 
   -- it is an index of the mode
-  pub nearest_small : nearest m ends p s c ≤ largest m
-  unfolding nearest
-  nearest_small = small_by dist_sq (palette_at m ends p s) (largest m) c
+  pub nearest_small : nearest_rgb m ends p s c ≤ largest m
+  unfolding nearest_rgb
+  nearest_small = small_by dist_sq (palette_colour m ends p s) (largest m) c

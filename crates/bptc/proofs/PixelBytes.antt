@@ -7,7 +7,7 @@ use lib.ListN.{get_or, length, set}
 use Rattle.lists.specs.Rows.{up_from, written}
 use Rattle.lists.proofs.Rows.{each_same, written_next, written_all, listed}
 use Rattle.bptc.specs.declared.Rgb.{Rgb}
-use Rattle.bptc.specs.Colour.{black, colours_of, pixel_in, bytes_of}
+use Rattle.bptc.specs.Internal.Colour.{rgb_at, black, colours_of, bytes_of}
 use Rattle.bptc.proofs.ColourBounds.{colour-at, colours-length, colours-bytes, bytes-length}
 
 -- byte j of colours
@@ -15,13 +15,13 @@ abbrev pub byte_at : List Rgb → ℕ → ℕ
 byte_at cs j = get_or (bytes_of cs) j 0
 
 -- the pixel in the bytes of colours
-pub pixel_in_lem : (cs : List Rgb) (i : ℕ) → i < length cs → get_or cs i black ≡ pixel_in (bytes_of cs) i
+pub pixel_in_lem : (cs : List Rgb) (i : ℕ) → i < length cs → get_or cs i black ≡ rgb_at (bytes_of cs) i
 pixel_in_lem cs i h = rw colours-bytes at (colour-at (bytes_of cs) i (omega (arith, bytes-length cs)))
 
 -- sixteen pixels by their bytes are the colours of the bytes
-pub pixels_in : (px : List ℕ) → length px ≡ 48 → map (pixel_in px) (up_from 0 16) ≡ colours_of px
+pub pixels_in : (px : List ℕ) → length px ≡ 48 → map (rgb_at px) (up_from 0 16) ≡ colours_of px
 pixels_in px long =
-    each_same black (pixel_in px) (λ (i : ℕ). get_or (colours_of px) i black) 16 (λ i h. sym (colour-at px i (omega arith)))
+    each_same black (rgb_at px) (λ (i : ℕ). get_or (colours_of px) i black) 16 (λ i h. sym (colour-at px i (omega arith)))
     ∙ listed black (colours_of px) 16 (omega (arith, colours-length px))
 
 module _ (cs : List Rgb) (xs : List ℕ) where

@@ -2,14 +2,10 @@
 use Prim.Native.Nat.{ℕ, suc, ◌+◌, ◌-◌, ◌*◌, ◌/◌, ◌^◌, ◌≤◌, ◌<◌}
 use native.Mathlib.Nat.{mul_comm, suc-mul, pow-suc, mul-le-mul_right, div-lt_iff_lt-mul}
 use native.Mathlib.Omega.{arith}
-use mathlib.Core.Path.{◌≡◌, refl}
-use mathlib.Core.List.{List}
-use lib.ListN.{get_or}
+use mathlib.Core.Path.{◌≡◌}
 use lib.Pow.{pow_pos, pow-add}
-use Rattle.bptc.specs.declared.Rgb.{Rgb}
-use Rattle.bptc.specs.Mode.{Mode, mode1, mode3}
-use Rattle.bptc.specs.Colour.{black, each}
-use Rattle.bptc.specs.Shown.{p_bit, widen, p_shown, shown, end_shown_by, end_shown}
+use Rattle.bptc.specs.Internal.Shown.{p_shown}
+use Rattle.bptc.specs.Shown.{widen}
 
 -- k + a bits made eight: the lowest a places are filled by the top a bits
 widened : (a k v : ℕ) → k + a + a ≡ 8 → v < 2 ^ (k + a) → v * 2 ^ a + v / 2 ^ k < 256
@@ -36,18 +32,3 @@ module _ (bits p e : ℕ) (some : 3 ≤ bits) (most : bits ≤ 7) where
       let e' : 2 * bits - 6 + (7 - bits) + (7 - bits) ≡ 8 = omega arith in
       let wide : e * 2 + p < 2 ^ (2 * bits - 6 + (7 - bits)) = rw sum (omega (arith, pow-suc 2 bits)) in
       rw p-shown (widened (7 - bits) (2 * bits - 6) (e * 2 + p) e' wide)
-
--- the colour that an endpoint shows, channel by channel
-pub end_shown_lem : (m : Mode) (ends : List Rgb) (p k : ℕ) → end_shown m ends p k ≡ each (shown m (p_bit m p k)) (get_or ends k black)
-unfolding end_shown end_shown_by shown
-end_shown_lem m ends p k = refl
-
--- in mode 1 the seven bits v = 2 × e + p show 2 × v + v / 64
-pub shown1 : (p e : ℕ) → shown mode1 p e ≡ 2 * (2 * e + p) + (2 * e + p) / 64
-unfolding shown p_shown widen
-shown1 p e = omega arith
-
--- in mode 3 the eight bits are the byte
-pub shown3 : (p e : ℕ) → p < 2 → e < 128 → shown mode3 p e ≡ 2 * e + p
-unfolding shown p_shown widen
-shown3 p e h l = omega arith

@@ -1,53 +1,66 @@
--- Colours, the pixels that bytes stand for, and the distance between two colours.
-use Rattle.std.specs.Prelude.{ℕ, ◌+◌, ◌-◌, ◌*◌, ◌<◌, List, [], ◌∷◌, get_or}
+-- Colours of four channels, the pixels that bytes stand for, and the distance between two colours.
+use Rattle.std.specs.Prelude.{ℕ, ◌+◌, ◌-◌, ◌*◌, List, [], ◌∷◌, map, ltb, get_or, take}
+use Rattle.lists.specs.Tests.{pick}
+use Rattle.lists.specs.Rows.{up_from}
+use Rattle.lists.specs.Parts.{joined}
 use Rattle.bptc.specs.declared.Rgb.{Rgb}
+use Rattle.bptc.specs.Mode.{Mode}
+
+-- a colour of red, green, blue and alpha, stored or shown
+pub record Rgba : Type 0 where
+  pub r : ℕ
+  pub g : ℕ
+  pub b : ℕ
+  pub a : ℕ
+
+-- the colour of a function's values: red at 0, green at 1, blue at 2, alpha at 3
+abbrev pub colour_by : (ℕ → ℕ) → Rgba
+colour_by f = record { r = f 0; g = f 1; b = f 2; a = f 3 }
+
+-- the channels of a colour: red, green, blue, alpha
+abbrev pub channels : Rgba → List ℕ
+channels c = c.r ∷ (c.g ∷ (c.b ∷ (c.a ∷ [])))
+
+-- channel j of a colour: red 0, green 1, blue 2, alpha 3
+unfoldable pub channel : ℕ → Rgba → ℕ
+channel j c = get_or (channels c) j 0
 
 -- all channels 0
-abbrev pub black : Rgb
-black = record { r = 0; g = 0; b = 0 }
+abbrev pub clear : Rgba
+clear = record { r = 0; g = 0; b = 0; a = 0 }
 
--- a function of a channel, at each channel
-abbrev pub each : (ℕ → ℕ) → Rgb → Rgb
-each f c = record { r = f c.r; g = f c.g; b = f c.b }
+-- a colour of three channels, with an alpha
+abbrev pub with_alpha : ℕ → Rgb → Rgba
+with_alpha a c = record { r = c.r; g = c.g; b = c.b; a = a }
 
--- a function of two channels, at each channel of two colours
-abbrev pub both : (ℕ → ℕ → ℕ) → Rgb → Rgb → Rgb
-both f c d = record { r = f c.r d.r; g = f c.g d.g; b = f c.b d.b }
+-- the red, green and blue of a colour
+abbrev pub rgb_of : Rgba → Rgb
+rgb_of c = record { r = c.r; g = c.g; b = c.b }
 
--- each channel is below a bound
-pub record Below (top : ℕ) (c : Rgb) : Type 0 where
-  pub r : c.r < top
-  pub g : c.g < top
-  pub b : c.b < top
+-- stored endpoints of three channels: their alpha is not stored, and is 0
+unfoldable pub without_alpha : List Rgb → List Rgba
+without_alpha ends = map (with_alpha 0) ends
 
--- the colours of bytes: red, green, blue of one pixel after the other
-unfoldable pub colours_of : List ℕ → List Rgb
-colours_of [] = []
-colours_of (r ∷ []) = []
-colours_of (r ∷ (g ∷ [])) = []
-colours_of (r ∷ (g ∷ (b ∷ bs))) = record { r = r; g = g; b = b } ∷ colours_of bs
+-- what a mode looks at of a stored colour: the channels that it has, and 0 for the others
+unfoldable pub stored : Mode → Rgba → Rgba
+stored m c = colour_by (λ (j : ℕ). pick (ltb j m.channels) (channel j c) 0)
 
--- pixel i of bytes, by their places: the demands speak of pixels so, and not by the colours that the calls' contracts speak of
-abbrev pub pixel_in : List ℕ → ℕ → Rgb
-pixel_in px i = record { r = get_or px (i * 3) 0; g = get_or px (i * 3 + 1) 0; b = get_or px (i * 3 + 2) 0 }
+-- pixel i of bytes, k to a pixel: where there are three the alpha is 255
+abbrev pub pixel_in : ℕ → List ℕ → ℕ → Rgba
+pixel_in k px i = colour_by (λ (j : ℕ). pick (ltb j k) (get_or px (i * k + j) 0) 255)
 
--- the bytes of colours
-unfoldable pub bytes_of : List Rgb → List ℕ
-bytes_of [] = []
-bytes_of (c ∷ cs) = c.r ∷ (c.g ∷ (c.b ∷ bytes_of cs))
+-- the sixteen pixels of bytes, k to a pixel
+unfoldable pub pixels_of : ℕ → List ℕ → List Rgba
+pixels_of k px = map (pixel_in k px) (up_from 0 16)
+
+-- the bytes of sixteen colours, k to a pixel
+unfoldable pub pixel_bytes : ℕ → List Rgba → List ℕ
+pixel_bytes k cs = joined (λ (i : ℕ). take k (channels (get_or cs i clear))) 16
 
 -- the square of a difference: one of the two terms is 0
 unfoldable pub sq_diff : ℕ → ℕ → ℕ
 sq_diff a b = (a - b) * (a - b) + (b - a) * (b - a)
 
--- dist_sq: the squared differences in red, green and blue
-unfoldable pub dist_sq : Rgb → Rgb → ℕ
-dist_sq c d = sq_diff c.r d.r + sq_diff c.g d.g + sq_diff c.b d.b
-
--- the product of two colours, channel by channel in sum
-unfoldable pub dot : Rgb → Rgb → ℕ
-dot c d = c.r * d.r + c.g * d.g + c.b * d.b
-
--- the squared length of a colour
-unfoldable pub norm : Rgb → ℕ
-norm c = dot c c
+-- the squared differences in red, green and blue
+unfoldable pub squared_distance : Rgba → Rgba → ℕ
+squared_distance c d = sq_diff c.r d.r + sq_diff c.g d.g + sq_diff c.b d.b

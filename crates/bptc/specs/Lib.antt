@@ -3,6 +3,4 @@ pub mod Partition
 pub mod Colour
 pub mod Shown
 pub mod Palette
-pub mod Nearest
-pub mod Pixels
-pub mod Closest
+pub mod Internal

@@ -1,57 +1,37 @@
--- The colours of a subset's palette, between the two that its endpoints show.
-use Rattle.std.specs.Prelude.{ℕ, suc, ◌+◌, ◌-◌, ◌*◌, ◌/◌, List, [], map, get_or, replicate}
-use Rattle.lists.specs.Rows.{up_from, written}
-use Rattle.bptc.specs.declared.Rgb.{Rgb}
-use Rattle.bptc.specs.declared.Colour.{Colour}
+-- Khronos Data Format Specification, BPTC: the colours of a subset's palette; and the index that a pixel gets in it.
+use Rattle.std.specs.Prelude.{ℕ, ◌+◌, ◌-◌, ◌*◌, ◌/◌, List, get_or}
+use Rattle.lists.specs.Rows.{up_from}
+use Rattle.lists.specs.Least.{first_least}
 use Rattle.bptc.specs.Mode.{Mode, weight, largest}
-use Rattle.bptc.specs.Colour.{black, both}
-use Rattle.bptc.specs.Shown.{end_shown}
-use Rattle.bptc.specs.Pixels.{pixel_word}
+use Rattle.bptc.specs.Colour.{Rgba, clear}
+use Rattle.bptc.specs.Shown.{own, end_shown}
 
--- the chapter's interpolation of a channel, at a weight in parts of 64
+-- a channel between two, at a weight in parts of 64
 unfoldable pub between : ℕ → ℕ → ℕ → ℕ
 between w a b = ((64 - w) * a + w * b + 32) / 64
 
--- interpolate_rgb's form of it, at a weight in parts of 256
-unfoldable pub blend : ℕ → ℕ → ℕ → ℕ
-blend w a b = ((256 - w) * a + w * b + 128) / 256
-
 -- the colour at index i between two that are shown
-unfoldable pub shade : Mode → Rgb → Rgb → ℕ → Rgb
-shade m a b i = both (between (weight m i)) a b
+unfoldable pub shade : Mode → Rgba → Rgba → ℕ → Rgba
+shade m a b i =
+    let w : ℕ = weight m i in
+    record { r = between w a.r b.r; g = between w a.g b.g; b = between w a.b b.b; a = between w a.a b.a }
+
+-- the colour at index i of a palette, by two stored endpoints and their own p-bits
+unfoldable pub palette_of : Mode → Rgba → Rgba → ℕ → ℕ → Rgba
+palette_of m a b q i = shade m (end_shown m q 0 a) (end_shown m q 1 b) i
+
+-- the lower endpoint of subset s where h is 0, and the upper one where it is 1
+abbrev pub end_of : List Rgba → ℕ → ℕ → Rgba
+end_of ends s h = get_or ends (2 * s + h) clear
 
 -- the colour at index i of subset s, at given endpoints and p-bits
-unfoldable pub palette_at : Mode → List Rgb → ℕ → ℕ → ℕ → Rgb
-palette_at m ends p s i = shade m (end_shown m ends p (2 * s)) (end_shown m ends p (2 * s + 1)) i
+abbrev pub palette_at : Mode → List Rgba → ℕ → ℕ → ℕ → Rgba
+palette_at m ends p s i = palette_of m (end_of ends s 0) (end_of ends s 1) (own m p s) i
 
--- the palette between two colours that are shown, in the order of the indices
-unfoldable pub row : Mode → Rgb → Rgb → List Rgb
-row m a b = map (shade m a b) (up_from 0 (suc (largest m)))
+-- the lowest index up to the last whose colour is nearest, by any distance
+unfoldable pub nearest_by : {A : Type 0} → (A → A → ℕ) → (ℕ → A) → ℕ → A → ℕ
+nearest_by distance colour last c = first_least (λ (i : ℕ). distance c (colour i)) 0 (up_from 1 last)
 
--- a mode's weights in parts of 256, eight of them: 0 past its largest index
-abbrev pub row_weights : Mode → List ℕ
-row_weights m = map (λ (i : ℕ). 4 * weight m i) (up_from 0 8)
-
--- the first n colours by weights in parts of 256, in a row of eight, black after them
-unfoldable pub blended_row : List ℕ → ℕ → Rgb → Rgb → List Rgb
-blended_row weights n a b = written (λ (i : ℕ). both (blend (get_or weights i 0)) a b) n (replicate 8 black)
-
--- a row for each two of four colours that are shown
-unfoldable pub blended_rows : List ℕ → ℕ → List Rgb → List (List Rgb)
-blended_rows weights n e = map (λ (s : ℕ). blended_row weights n (get_or e (2 * s) black) (get_or e (2 * s + 1) black)) (up_from 0 2)
-
--- both palettes of a block, a row of eight for each subset, black past the mode's largest index
-unfoldable pub palettes : Mode → List Rgb → ℕ → List (List Rgb)
-palettes m ends p = map (λ (s : ℕ). written (palette_at m ends p s) (suc (largest m)) (replicate 8 black)) (up_from 0 2)
-
--- a colour as one number, as the rows of the code have it
-abbrev pub colour : Rgb → Colour
-colour c = record { 0 = pixel_word c }
-
--- both rows so
-unfoldable pub coloured : List (List Rgb) → List (List Colour)
-coloured rows = map (map colour) rows
-
--- the number of colour j of row s
-abbrev pub word_at : List (List Colour) → ℕ → ℕ → ℕ
-word_at rows s j = (get_or (get_or rows s []) j (record { 0 = 0 })).0
+-- the nearest index in the palette of two endpoints and their own p-bits
+abbrev pub nearest : (Rgba → Rgba → ℕ) → Mode → Rgba → Rgba → ℕ → Rgba → ℕ
+nearest distance m a b q c = nearest_by distance (palette_of m a b q) (largest m) c

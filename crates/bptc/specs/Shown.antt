@@ -1,38 +1,36 @@
--- The colour that a stored endpoint and its p-bit show.
-use Rattle.std.specs.Prelude.{ℕ, ◌+◌, ◌-◌, ◌*◌, ◌/◌, ◌^◌, ◌<◌, List, get_or}
+-- Khronos Data Format Specification, BPTC: the colour that a stored endpoint shows with the p-bits of its subset.
+use Rattle.std.specs.Prelude.{ℕ, ◌+◌, ◌-◌, ◌*◌, ◌/◌, ◌%◌, ◌^◌, map, eqb, ltb, replicate}
+use Rattle.lists.specs.Tests.{pick}
+use Rattle.lists.specs.Rows.{up_from}
 use Rattle.lists.specs.Digits.{bit}
-use Rattle.bptc.specs.declared.Rgb.{Rgb}
+use Rattle.lists.specs.Bits.{join}
 use Rattle.bptc.specs.Mode.{Mode}
-use Rattle.bptc.specs.Colour.{black, each, Below}
+use Rattle.bptc.specs.Colour.{Rgba, colour_by, channel}
 
--- the p-bit of endpoint k in the number that holds them all: bit k / 2 of two, bit k of four
-abbrev pub p_bit_by : ℕ → ℕ → ℕ → ℕ
-p_bit_by p_bits p k = bit p (k * p_bits / 4)
+-- subset s's own p-bits in the number that holds them all
+unfoldable pub own : Mode → ℕ → ℕ → ℕ
+own m p s = p / 2 ^ (s * m.own_bits) % 2 ^ m.own_bits
 
--- in a mode
-abbrev pub p_bit : Mode → ℕ → ℕ → ℕ
-p_bit m p k = p_bit_by m.p_bits p k
+-- the number that holds the subsets' own p-bits
+unfoldable pub joined_own : Mode → (ℕ → ℕ) → ℕ
+joined_own m q = join (replicate m.subsets m.own_bits) (map q (up_from 0 m.subsets))
 
--- promote: n bits made eight; they stand on top, and their own top bits again below them
+-- the p-bit of an endpoint out of its subset's own: h is 0 for the lower endpoint and 1 for the upper
+unfoldable pub own_bit : ℕ → ℕ → ℕ → ℕ
+own_bit own q h = pick (eqb own 2) (bit q h) q
+
+-- n bits made eight: they stand on top, and their own top bits again below them
 unfoldable pub widen : ℕ → ℕ → ℕ
 widen n v = v * 2 ^ (8 - n) + v / 2 ^ (2 * n - 8)
 
--- p_promote: the byte that a channel stored in some bits shows, with the p-bit as its lowest bit
-unfoldable pub p_shown : ℕ → ℕ → ℕ → ℕ
-p_shown bits p e = widen (bits + 1) (2 * e + p)
+-- the byte that a stored channel shows: a p-bit is its lowest bit
+unfoldable pub shown_by : ℕ → ℕ → ℕ → ℕ → ℕ
+shown_by bits own p e = pick (eqb own 0) (widen bits e) (widen (bits + 1) (2 * e + p))
 
--- in a mode
-unfoldable pub shown : Mode → ℕ → ℕ → ℕ
-shown m p e = p_shown m.channel_bits p e
+-- the colour that an endpoint shows by its p-bit: alpha is 255 in a mode without it
+unfoldable pub end_by : Mode → ℕ → Rgba → Rgba
+end_by m p c = colour_by (λ (j : ℕ). pick (ltb j m.channels) (shown_by m.channel_bits m.own_bits p (channel j c)) 255)
 
--- the colour that endpoint k shows, by the bits of a channel and the number of p-bits
-unfoldable pub end_shown_by : ℕ → ℕ → List Rgb → ℕ → ℕ → Rgb
-end_shown_by bits p_bits ends p k = each (p_shown bits (p_bit_by p_bits p k)) (get_or ends k black)
-
--- in a mode
-unfoldable pub end_shown : Mode → List Rgb → ℕ → ℕ → Rgb
-end_shown m ends p k = end_shown_by m.channel_bits m.p_bits ends p k
-
--- the four endpoints are within the mode's width
-abbrev pub Stored : Mode → List Rgb → Type 0
-Stored m ends = (k : ℕ) → k < 4 → Below (2 ^ m.channel_bits) (get_or ends k black)
+-- the colour that an endpoint shows by its subset's own p-bits
+abbrev pub end_shown : Mode → ℕ → ℕ → Rgba → Rgba
+end_shown m q h c = end_by m (own_bit m.own_bits q h) c

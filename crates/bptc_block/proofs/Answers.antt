@@ -1,31 +1,33 @@
 -- The answers of the calls, by the numbers that their checks give.
-use Prim.Native.Nat.{ℕ, suc, ◌-◌, ◌^◌}
-use native.Mathlib.Omega.{arith}
-use mathlib.Core.Path.{◌≡◌, refl, sym, ap, ◌∙◌}
+use Prim.Native.Nat.{ℕ, ◌-◌, ◌^◌}
+use mathlib.Core.Path.{◌≡◌, refl, sym, ap, ap₂, ◌∙◌, subst}
 use mathlib.Core.Bool.{Bool, true, false}
 use mathlib.Core.List.{List, [], ◌∷◌}
-use lib.Dec.{eqb, leb}
-use lib.ListN.{length, get_or}
+use lib.Dec.{eqb, leb, ltb}
+use lib.ListN.{length}
 use borrow.Author.Tests.{eq-eqb, ne_eqb}
 use Rattle.std.proofs.Common.{Ok, Err, ◌&&◌}
 use Rattle.std.specs.List.{list_all}
 use Rattle.lists.specs.Tests.{pick, and, all}
-use Rattle.lists.specs.Rows.{over_pixels}
 use Rattle.refusals.specs.declared.Refusal.{Refusal}
 use Rattle.refusals.specs.Numbers.{number_of}
 use Rattle.refusals.proofs.Numbers.{some_number}
-use Rattle.bptc.specs.Mode.{Mode, IsMode, mode_numbered, largest}
-use Rattle.bptc.specs.Colour.{black, bytes_of, colours_of, dist_sq}
-use Rattle.bptc.proofs.Modes.{by_mode}
+use Rattle.bptc.specs.declared.Rgb.{Rgb}
+use Rattle.bptc.specs.Mode.{Mode, IsMode, mode_numbered, p_bits, largest}
+use Rattle.bptc.specs.Colour.{without_alpha, pixels_of, pixel_bytes, squared_distance}
+use Rattle.bptc.proofs.Modes as M
+use Rattle.bptc.proofs.Modes.{mode_of_number}
+use Rattle.bptc_block.specs.declared.PBits.{PBits}
 use Rattle.bptc_block.specs.declared.PBits.TheVariants.{Fixed}
 use Rattle.bptc_block.specs.declared.Candidate.{Candidate}
 use Rattle.bptc_block.specs.declared.Fields.{Fields}
-use Rattle.bptc_block.specs.Refusal.{unless, is_mode, in_range, p_in_range, check_stored, check_candidate, check_indices, check_pixels, check_block, check_readable}
+use Rattle.bptc_block.specs.Refusal.{unless, is_mode, below, p_below, check_rgba, check_candidate, check_indices, check_pixels, check_block, check_readable}
+use Rattle.bptc_block.specs.Internal.RgbChecks.{check_stored}
 use Rattle.bptc_block.specs.Answers.{finished, measured, block_read}
 use Rattle.bptc_block.specs.Packed.{mode_of, packed, fields_of}
 use Rattle.bptc_block.specs.Exchange.{compressed}
-use Rattle.bptc_block.specs.Fields.{Plain}
-use Rattle.bptc_block.specs.Chapter.{colours}
+use Rattle.bptc_block.specs.Fields.{block_fields, rgb_fields, channel_values, Plain}
+use Rattle.bptc_block.specs.Chapter.{colours, apart, block_apart}
 use Rattle.bptc_block.specs.Finish.{finish}
 use Rattle.bptc_block.specs.PackCall.{fixed_at, pack_of, pack_into}
 use Rattle.bptc_block.specs.FinishCall.{finish_refusal, finish_of, finish_into}
@@ -34,7 +36,8 @@ use Rattle.bptc_block.specs.MeasureCall.{measure_of}
 use Rattle.bptc_block.proofs.FinishCall.{finish-declines, finish-declined, finish_leaves, finish-answer, finish-block}
 use Rattle.bptc_block.proofs.PackCall.{pack_leaves, pack-block, pack_plain}
 use Rattle.bptc_block.proofs.ReadCall.{read_number, read-declined, read_leaves, read_answer_lem, read-pixels, measure-declined, measure-answer}
-use Rattle.bptc_block.proofs.Distance.{distance-colours}
+use Rattle.bptc_block.proofs.Refusals.{Known, own-number, other_mode}
+use Rattle.bptc_block.proofs.RgbChecks.{stored_same, indices_same}
 
 -- the library's test of each element
 pub each_all : {A : Type 0} (f : A → Bool) (xs : List A) → list_all f xs ≡ all f xs
@@ -45,17 +48,12 @@ each_all f (x ∷ xs) = go (f x) (each_all f xs)
     go true e = e
     go false e = refl
 
--- the checks after one that declines change nothing, and those after one that passes decide
-pub unless_then : (t : Bool) (k rest : ℕ) → unless t (suc k) rest ≡ pick (eqb (unless t (suc k) 0) 0) rest (unless t (suc k) 0)
-unless_then true k rest = refl
-unless_then false k rest = let ne : suc k ≡ 0 → ⊥ = λ e. omega arith in rw (ne_eqb (suc k) 0 ne)
-
 -- the same of a candidate's checks
 pub candidate_then : (c : Candidate) (rest : ℕ) → check_candidate c rest ≡ pick (eqb (check_candidate c 0) 0) rest (check_candidate c 0)
-unfolding check_candidate
+unfolding check_rgba
 candidate_then c rest =
     let m : Mode = mode_numbered c.mode in
-    four (is_mode c.mode) (leb c.partition 63) (in_range (2 ^ m.channel_bits - 1) c.ends) (p_in_range (2 ^ m.p_bits - 1) c.p)
+    four (is_mode c.mode) (ltb c.partition (2 ^ m.partition_bits)) (below (2 ^ m.channel_bits) (channel_values m (without_alpha c.ends))) (p_below (2 ^ p_bits m) c.p)
   where
     four : (t u v w : Bool) →
         unless t 3 (unless u 4 (unless v 5 (unless w 6 rest)))
@@ -65,6 +63,31 @@ candidate_then c rest =
     four true true false w = refl
     four true true true false = refl
     four true true true true = refl
+
+-- of a mode by its number, with the code's checks of what it stores
+pub candidate_stored : (m : Mode) → IsMode m → (part : ℕ) (ends : List Rgb) (ps : PBits) (rest : ℕ) → length ends ≡ 4 →
+    check_stored (2 ^ m.channel_bits - 1) (2 ^ p_bits m - 1) part ends ps rest ≡ check_candidate (record { mode = m.number; partition = part; ends = ends; p = ps }) rest
+unfolding check_rgba
+candidate_stored m is part ends ps rest long =
+    stored_same m is part ends ps rest long
+    ∙ ap₂ (λ (t : Bool) (m : Mode).
+    unless t 3
+    (unless (ltb part (2 ^ m.partition_bits)) 4
+    (unless (below (2 ^ m.channel_bits) (channel_values m (without_alpha ends))) 5 (unless (p_below (2 ^ p_bits m) ps) 6 rest))))
+    (sym (eq-eqb _ m.number (ap (λ (m : Mode). m.number) (mode_of_number m is)))) (sym (mode_of_number m is))
+
+-- of a number that is none's
+pub other_candidate : (c : Candidate) (rest : ℕ) → (c.mode ≡ 1 → ⊥) → (c.mode ≡ 3 → ⊥) → 3 ≡ check_candidate c rest
+unfolding check_rgba
+other_candidate c rest one three = rw (other_mode c.mode one three)
+
+-- of a number that is a mode's
+pub known_stored : (mode : ℕ) → Known mode → (part : ℕ) (ends : List Rgb) (ps : PBits) (rest : ℕ) → length ends ≡ 4 →
+    check_stored (2 ^ (mode_numbered mode).channel_bits - 1) (2 ^ p_bits (mode_numbered mode) - 1) part ends ps rest
+    ≡ check_candidate (record { mode = mode; partition = part; ends = ends; p = ps }) rest
+known_stored mode known part ends ps rest four =
+    candidate_stored (mode_numbered mode) (M.is_mode mode) part ends ps rest four
+    ∙ ap (λ (n : ℕ). check_candidate (record { mode = n; partition = part; ends = ends; p = ps }) rest) (own-number mode known)
 
 -- a call declines by the number of a refusal, which is not 0
 module _ (r : Refusal) (n : ℕ) (e : number_of r ≡ n) where
@@ -154,20 +177,15 @@ module _ (block px : List ℕ) where
       is : mode_numbered (mode_of block) ≡ m
       is = rw own at same
 
-      pub read_ok : {f : Fields} → f ≡ fields_of m block → block_read (Ok (record { mode = mode; fields = f })) ≡ read_of block px
+      pub read_ok : {f : Fields} → f ≡ rgb_fields (fields_of m block) → block_read (Ok (record { mode = mode; fields = f })) ≡ read_of block px
       read_ok e = rw (e, own) (sym (rw is at (read_answer_lem block px none)))
 
-      pub read_written : {bs : List ℕ} → bs ≡ bytes_of (colours m (fields_of m block)) → bs ≡ read_into block px
+      pub read_written : {bs : List ℕ} → bs ≡ pixel_bytes 3 (colours m (fields_of m block)) → bs ≡ read_into block px
       read_written e = e ∙ sym (rw is at (read-pixels block px none))
 
-      pub measure_ok : {n : ℕ} → n ≡ over_pixels (λ (i : ℕ). dist_sq (get_or (colours_of px) i black) (get_or (colours m (fields_of m block)) i black)) →
-          measured (Ok n) ≡ measure_of block px
-      measure_ok e =
-          ap (λ (n : ℕ). record { refusal = 0; error = n }) (e ∙ sym (rw is at (distance-colours px block))) ∙ sym (measure-answer block px none)
-
--- a mode is the one that its number says
-by_number : (m : Mode) → IsMode m → (mode_numbered m.number ≡ m) × (is_mode m.number ≡ true)
-by_number = by_mode (λ (m : Mode). (mode_numbered m.number ≡ m) × (is_mode m.number ≡ true)) (refl, refl) (refl, refl)
+      pub measure_ok : {n : ℕ} → n ≡ apart squared_distance m (pixels_of 3 px) (fields_of m block) → measured (Ok n) ≡ measure_of block px
+      unfolding block_apart
+      measure_ok e = rw (e, ← is) (sym (measure-answer block px none))
 
 -- those of `pack`
 module _ (f : Fields) (block : List ℕ) where
@@ -177,24 +195,26 @@ module _ (f : Fields) (block : List ℕ) where
 
   module _ (b : length block ≡ 16) where
     pub pack_mode : (mode : ℕ) → (mode ≡ 1 → ⊥) → (mode ≡ 3 → ⊥) → 3 ≡ pack_of mode f block
-    unfolding pack_of check_candidate
-    pack_mode mode one three = rw (eq-eqb (length block) 16 b, ne_eqb mode 1 one, ne_eqb mode 3 three)
+    unfolding pack_of check_rgba
+    pack_mode mode one three = rw (eq-eqb (length block) 16 b, other_mode mode one three)
 
     -- by the numbers of the two groups of checks of a mode
-    pub pack_stored : (m : Mode) → IsMode m → {stored indices : ℕ} →
-        stored ≡ check_stored (2 ^ m.channel_bits - 1) (2 ^ m.p_bits - 1) f.partition f.ends (Fixed f.p) 0 →
+    pub pack_stored : (m : Mode) → IsMode m → length f.ends ≡ 4 → {stored indices : ℕ} →
+        stored ≡ check_stored (2 ^ m.channel_bits - 1) (2 ^ p_bits m - 1) f.partition f.ends (Fixed f.p) 0 →
         indices ≡ unless (list_all (λ (i : ℕ). leb i (largest m)) f.indices) 7 0 → pick (eqb stored 0) indices stored ≡ pack_of m.number f block
-    unfolding pack_of check_candidate
-    pack_stored m known {stored} {indices} e k =
-        let (same, mode) = by_number m known in
-        let own : check_candidate (fixed_at m.number f) 0 ≡ stored = rw (mode, same) (sym e) in
-        let rest : check_indices m.number f.indices 0 ≡ indices = rw (same, ← each_all (λ (i : ℕ). leb i (largest m)) f.indices) (sym k) in
+    unfolding pack_of
+    pack_stored m known four {stored} {indices} e k =
+        let own : check_candidate (fixed_at m.number f) 0 ≡ stored = sym (e ∙ candidate_stored m known f.partition f.ends (Fixed f.p) 0 four) in
+        let rest : check_indices m.number f.indices 0 ≡ indices =
+        ap (λ (n : Mode). unless (below (2 ^ n.index_bits) f.indices) 7 0) (mode_of_number m known)
+        ∙ ap (λ (t : Bool). unless t 7 0) (sym (each_all (λ (i : ℕ). leb i (largest m)) f.indices ∙ indices_same m known f.indices))
+        ∙ sym k in
         rw (eq-eqb (length block) 16 b, candidate_then (fixed_at m.number f) (check_indices m.number f.indices 0), own, rest)
 
   -- what is packed and written where they decline nothing
   module _ (m : Mode) (known : IsMode m) (e : 0 ≡ pack_of m.number f block) where
-    pub pack_in_range : length f.ends ≡ 4 → length f.indices ≡ 16 → Plain m f
-    pack_in_range four sixteen = rw (by_number m known).0 at (pack_plain m.number f block (sym e) four sixteen)
+    pub pack_in_range : length f.ends ≡ 4 → length f.indices ≡ 16 → Plain m (block_fields f)
+    pack_in_range four sixteen = subst (λ (m : Mode). Plain m (block_fields f)) (mode_of_number m known) (pack_plain m.number f block (sym e) four sixteen)
 
-    pub pack_written : {bs : List ℕ} → bs ≡ packed m (compressed m f) → bs ≡ pack_into m.number f block
-    pack_written own = own ∙ sym (rw (by_number m known).0 at (pack-block m.number f block (sym e)))
+    pub pack_written : {bs : List ℕ} → bs ≡ packed m (compressed m (block_fields f)) → bs ≡ pack_into m.number f block
+    pack_written own = own ∙ ap (λ (m : Mode). packed m (compressed m (block_fields f))) (sym (mode_of_number m known)) ∙ sym (pack-block m.number f block (sym e))

@@ -1,23 +1,20 @@
 -- The checks of the calls, by their tests, are the list of refusals in plain numbers.
-use Prim.Native.Nat.{ℕ, suc, ◌-◌, ◌^◌, ◌<◌}
-use mathlib.Core.Path.{◌≡◌, refl, sym, subst}
+use Prim.Native.Nat.{ℕ, ◌^◌}
+use mathlib.Core.Path.{◌≡◌, refl, sym}
 use mathlib.Core.Bool.{Bool, true, false, true≢false}
-use mathlib.Core.Logic.{inl, inr}
 use mathlib.Core.List.{List}
-use lib.Dec.{eqb, leb, ltb}
+use lib.Dec.{eqb, ltb}
 use lib.ListN.{get_or, length}
-use lib.Pow.{le_ones, lt_of_le_ones}
-use borrow.Author.Tests.{eqb-true, eq-eqb, leb-true, le-leb, ltb-true, lt-ltb}
-use Rattle.lists.specs.Tests.{all}
-use Rattle.bptc.specs.Mode.{Mode, mode1, mode3, Known, mode_numbered, largest}
-use Rattle.bptc.specs.Colour.{black, Below}
-use Rattle.bptc_block.specs.declared.PBits.{PBits}
-use Rattle.bptc_block.specs.declared.PBits.TheVariants.{Free, Fixed}
+use borrow.Author.Tests.{eqb-true, eq-eqb, ltb-true, lt-ltb}
+use Rattle.bptc.specs.Mode.{Mode, mode_numbered, p_bits}
+use Rattle.bptc.specs.Colour.{Rgba, without_alpha}
 use Rattle.bptc_block.specs.declared.Candidate.{Candidate}
+use Rattle.bptc_block.specs.Fields.{channel_values}
 use Rattle.bptc_block.specs.Packed.{mode_of}
-use Rattle.bptc_block.specs.Refusal.{unless, is_mode, in_range, p_in_range, check_pixels, check_block, check_candidate, check_indices, check_readable}
-use Rattle.bptc_block.specs.Checks.{Check, passes, declines, InMode, BitsWithin, PixelsChecked, BlockChecked, CandidateChecked, IndicesChecked, ReadableChecked}
-use Rattle.bptc_block.proofs.Refusals.{one_or_three, is_mode_lem, in_range_lem, range_in, all_small, small_all}
+use Rattle.bptc_block.specs.Refusal.{unless, is_mode, below, p_below, check_pixels, check_block, check_rgba, check_candidate, check_indices, check_readable}
+use Rattle.bptc_block.specs.Checks.{Check, passes, declines, PixelsChecked, BlockChecked, CandidateChecked, IndicesChecked, ReadableChecked}
+use Rattle.bptc_block.proofs.Modes.{lawful}
+use Rattle.bptc_block.proofs.Refusals.{Known, one_or_three, is_mode_lem, row-known, all-below, below_all, bits_in_lem, in_bits, channels_in, in_channels}
 use Rattle.bptc_block.proofs.Readable.{says_known, known_says}
 
 -- a check by its test, which says what passes
@@ -25,28 +22,6 @@ check : (Passes : Type 0) (Later : ℕ → Type 0) (t : Bool) (k rest : ℕ) →
     Check k Passes Later (unless t k rest)
 check Passes Later true k rest says back later = passes (says refl) (later (says refl))
 check Passes Later false k rest says back later = declines (λ p. true≢false (sym (back p))) refl
-
--- a limit by a mode's record, in plain numbers
-in_mode : (P : ℕ → Type 0) (limit : Mode → ℕ) (n : ℕ) → P (limit (mode_numbered n)) → InMode n P (limit mode1) (limit mode3)
-in_mode P limit n h = (at 1, at 3)
-  where
-    at : (k : ℕ) → n ≡ k → P (limit (mode_numbered k))
-    at k e = subst (λ (m : ℕ). P (limit (mode_numbered m))) e h
-
--- and back
-mode_in : (P : ℕ → Type 0) (limit : Mode → ℕ) (n : ℕ) → Known n → InMode n P (limit mode1) (limit mode3) → P (limit (mode_numbered n))
-mode_in P limit n (inl e) (first, third) = subst (λ (m : ℕ). P (limit (mode_numbered m))) (sym e) (first e)
-mode_in P limit n (inr e) (first, third) = subst (λ (m : ℕ). P (limit (mode_numbered m))) (sym e) (third e)
-
--- p-bits: the test and what it says
-bits_in_lem : (w : ℕ) (ps : PBits) → p_in_range (2 ^ w - 1) ps ≡ true → BitsWithin (2 ^ w) ps
-bits_in_lem w Free t = tt
-bits_in_lem w (Fixed p) t = lt_of_le_ones w (leb-true p _ t)
-
--- and back
-pub in_bits : (w : ℕ) (ps : PBits) → BitsWithin (2 ^ w) ps → p_in_range (2 ^ w - 1) ps ≡ true
-in_bits w Free h = refl
-in_bits w (Fixed p) h = le-leb p _ (le_ones w h)
 
 module _ (Later : ℕ → Type 0) (rest : ℕ) where
   -- 1
@@ -59,35 +34,23 @@ module _ (Later : ℕ → Type 0) (rest : ℕ) where
 
   -- 3 to 6
   pub candidate-checked : (c : Candidate) → (Known c.mode → Later rest) → CandidateChecked c Later (check_candidate c rest)
-  unfolding check_candidate
+  unfolding check_rgba
   candidate-checked c later =
       let m : Mode = mode_numbered c.mode in
-      let Channels : ℕ → Type 0 = λ top. (k : ℕ) → k < length c.ends → Below top (get_or c.ends k black) in
-      let channel : Mode → ℕ = λ m. 2 ^ m.channel_bits in
-      let Bits : ℕ → Type 0 = λ top. BitsWithin top c.p in
-      let bits : Mode → ℕ = λ m. 2 ^ m.p_bits in
+      let ends : List Rgba = without_alpha c.ends in
       check _ _ (is_mode c.mode) 3 _ (one_or_three c.mode) (is_mode_lem c.mode)
       (λ known.
-      check _ _ (leb c.partition 63) 4 _ (leb-true c.partition 63) (le-leb c.partition 63)
+      rw (row-known c.mode known)
+      (check _ _ (ltb c.partition (2 ^ m.partition_bits)) 4 _ (ltb-true c.partition _) (lt-ltb c.partition _)
       (λ part.
-      check _ _ (in_range (2 ^ m.channel_bits - 1) c.ends) 5 _
-      (λ t. in_mode Channels channel c.mode (λ k h. in_range_lem m.channel_bits c.ends t k))
-      (λ h. range_in m.channel_bits c.ends (mode_in Channels channel c.mode known h))
-      (λ ends.
-      check _ Later (p_in_range (2 ^ m.p_bits - 1) c.p) 6 rest
-      (λ t. in_mode Bits bits c.mode (bits_in_lem m.p_bits c.p t))
-      (λ h. in_bits m.p_bits c.p (mode_in Bits bits c.mode known h))
-      (λ p. later known))))
+      check _ _ (below (2 ^ m.channel_bits) (channel_values m ends)) 5 _ (channels_in m (lawful c.mode) ends) (in_channels m (lawful c.mode) ends)
+      (λ inside. check _ Later (p_below (2 ^ p_bits m) c.p) 6 rest (bits_in_lem (2 ^ p_bits m) c.p) (in_bits (2 ^ p_bits m) c.p) (λ p. later known)))))
 
   -- 7, of a known mode
   pub indices-checked : (mode : ℕ) → Known mode → (is : List ℕ) → Later rest → IndicesChecked mode is Later (check_indices mode is rest)
-  unfolding largest
   indices-checked mode known is later =
-      let P : ℕ → Type 0 = λ top. (i : ℕ) → i < length is → get_or is i 0 < top in
-      let top : Mode → ℕ = λ m. suc (largest m) in
-      check _ Later (all (λ (i : ℕ). leb i (largest (mode_numbered mode))) is) 7 rest
-      (λ t. in_mode P top mode (λ i h. all_small (largest (mode_numbered mode)) is t i))
-      (λ h. small_all (largest (mode_numbered mode)) is (mode_in P top mode known h)) (λ h. later)
+      let top : ℕ = 2 ^ (mode_numbered mode).index_bits in
+      rw (row-known mode known) (check _ Later (below top is) 7 rest (all-below top is) (below_all top is) (λ h. later))
 
   -- 8 and 9
   pub readable_checked : (block : List ℕ) → Later rest → ReadableChecked block Later (check_readable block rest)

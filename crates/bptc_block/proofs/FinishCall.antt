@@ -6,13 +6,16 @@ use mathlib.Core.List.{List}
 use lib.Dec.{eqb}
 use lib.ListN.{length}
 use borrow.Author.Tests.{eqb-true, eq-eqb, ne_eqb}
+use Rattle.bptc.proofs.Colours.{without-length}
 use Rattle.bptc_block.specs.declared.Candidate.{Candidate}
+use Rattle.bptc_block.specs.RgbaCandidate.{rgba_candidate}
 use Rattle.bptc_block.specs.Answers.{Finished}
 use Rattle.bptc_block.specs.Finish.{finish}
-use Rattle.bptc_block.specs.Refusal.{check_block, check_candidate}
+use Rattle.bptc_block.specs.Refusal.{is_mode, check_block, check_rgba, check_candidate}
 use Rattle.bptc_block.specs.Checks.{NotDeclined, PixelsChecked, BlockChecked, CandidateChecked}
 use Rattle.bptc_block.specs.FinishCall.{finish_refusal, finish_of, finish_into}
-use Rattle.bptc_block.proofs.Refusals.{Good, number_said, passed, good}
+use Rattle.bptc_block.proofs.Refusals.{Known, one_or_three, number_said, passed, good}
+use Rattle.bptc_block.proofs.Finishing.{Good}
 use Rattle.bptc_block.proofs.Checks.{pixels-checked, block-checked, candidate-checked}
 
 module _ (px : List ℕ) (c : Candidate) (block : List ℕ) where
@@ -65,14 +68,15 @@ module _ (px : List ℕ) (c : Candidate) (block : List ℕ) where
     pub finish-pixels : length px ≡ 48
     finish-pixels = eqb-true _ _ after-pixels.0
 
-    -- and 16 of a block
-    pub finish-sixteen : length block ≡ 16
-    finish-sixteen = eqb-true _ _ (passed (eqb (length block) 16) 1 _ after-pixels.1).0
-
     -- the checks of the candidate decline nothing
     pub finish-accepted : check_candidate c 0 ≡ 0
     finish-accepted = (passed (eqb (length block) 16) 1 _ after-pixels.1).1
 
+    -- its mode is one of the two
+    pub finish_known : Known c.mode
+    unfolding check_rgba
+    finish_known = one_or_three c.mode (passed (is_mode c.mode) 2 _ finish-accepted).0
+
     -- what such a candidate is
-    pub finish_good : Good c
-    finish_good = (good c 0 finish-accepted).0
+    pub finish_good : length c.ends ≡ 4 → Good (rgba_candidate c)
+    finish_good four = (good (rgba_candidate c) 0 (without-length c.ends ∙ four) finish-accepted).0

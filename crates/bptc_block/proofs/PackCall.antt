@@ -1,23 +1,25 @@
 -- Laws of the call `pack`: what it accepts, what it declines, and what it leaves.
-use Prim.Native.Nat.{ℕ}
+use Prim.Native.Nat.{ℕ, ◌^◌}
 use native.Mathlib.Omega.{arith}
-use mathlib.Core.Path.{◌≡◌, refl}
+use mathlib.Core.Path.{◌≡◌, refl, ◌∙◌}
 use mathlib.Core.Bool.{true}
 use mathlib.Core.List.{List}
-use lib.Dec.{eqb, leb, le→leb, leb→le}
+use lib.Dec.{eqb}
 use lib.ListN.{length}
-use lib.Pow.{le_ones, lt_of_le_ones}
-use borrow.Author.Tests.{eqb-true, eq-eqb, ne_eqb}
-use Rattle.lists.specs.Tests.{all}
-use Rattle.bptc.specs.Mode.{Known, mode_numbered, largest}
+use borrow.Author.Tests.{eq-eqb, ne_eqb}
+use Rattle.bptc.specs.Mode.{Mode, mode_numbered}
+use Rattle.bptc.proofs.Colours.{without-length}
+use Rattle.bptc.proofs.Largest.{largest-fits, fits-largest}
 use Rattle.bptc_block.specs.declared.Fields.{Fields}
-use Rattle.bptc_block.specs.Fields.{Plain}
+use Rattle.bptc_block.specs.RgbaCandidate.{rgba_candidate}
+use Rattle.bptc_block.specs.Fields.{block_fields, Plain}
 use Rattle.bptc_block.specs.Packed.{packed}
 use Rattle.bptc_block.specs.Exchange.{compressed}
-use Rattle.bptc_block.specs.Refusal.{check_candidate, check_indices}
+use Rattle.bptc_block.specs.Refusal.{below, check_candidate, check_indices}
 use Rattle.bptc_block.specs.Checks.{NotDeclined, BlockChecked, CandidateChecked, IndicesChecked}
 use Rattle.bptc_block.specs.PackCall.{fixed_at, pack_of, pack_into}
-use Rattle.bptc_block.proofs.Refusals.{Good, passed, all_small, small_all, good, checked}
+use Rattle.bptc_block.proofs.Finishing.{Good}
+use Rattle.bptc_block.proofs.Refusals.{Known, own-number, passed, all-below, below_all, good, checked}
 use Rattle.bptc_block.proofs.Checks.{block-checked, candidate-checked, indices-checked}
 
 module _ (mode : ℕ) (f : Fields) (part : List ℕ) where
@@ -34,7 +36,7 @@ module _ (mode : ℕ) (f : Fields) (part : List ℕ) where
 
   module _ (ok : pack_of mode f part ≡ 0) where
     -- the part after a call that is not declined
-    pub pack-block : pack_into mode f part ≡ packed (mode_numbered mode) (compressed (mode_numbered mode) f)
+    pub pack-block : pack_into mode f part ≡ packed (mode_numbered mode) (compressed (mode_numbered mode) (block_fields f))
     unfolding pack_into
     pack-block = rw ok
 
@@ -42,38 +44,34 @@ module _ (mode : ℕ) (f : Fields) (part : List ℕ) where
     unfolding pack_of
     checks = (passed (eqb (length part) 16) 1 _ ok).1
 
-    -- there are 16 bytes of a block
-    pub pack_sixteen : length part ≡ 16
-    unfolding pack_of
-    pack_sixteen = eqb-true _ _ (passed (eqb (length part) 16) 1 _ ok).0
-
     -- what such a candidate is
-    pub pack_good : Good (fixed_at mode f)
-    pack_good = (good (fixed_at mode f) _ checks).0
+    pub pack_good : length f.ends ≡ 4 → Good (rgba_candidate (fixed_at mode f))
+    pack_good four = (good (rgba_candidate (fixed_at mode f)) _ (without-length f.ends ∙ four) checks).0
 
     -- what it accepts is in range
-    pub pack_plain : length f.ends ≡ 4 → length f.indices ≡ 16 → Plain (mode_numbered mode) f
+    pub pack_plain : length f.ends ≡ 4 → length f.indices ≡ 16 → Plain (mode_numbered mode) (block_fields f)
     pack_plain four sixteen =
-        let top : ℕ = largest (mode_numbered mode) in
-        let g : Good (fixed_at mode f) = pack_good in
-        let small : all (λ (i : ℕ). leb i top) f.indices ≡ true = (passed (all (λ (i : ℕ). leb i top) f.indices) 6 0 (good (fixed_at mode f) _ checks).1).0 in
+        let m : Mode = mode_numbered mode in
+        let (g, rest) = good (rgba_candidate (fixed_at mode f)) _ (without-length f.ends ∙ four) checks in
+        let small : below (2 ^ m.index_bits) f.indices ≡ true = (passed (below (2 ^ m.index_bits) f.indices) 6 0 rest).0 in
         record {
           partition = g.partition;
-          four = four;
-          channels = λ k h. g.stored k (omega arith);
-          p = lt_of_le_ones (mode_numbered mode).p_bits (leb→le _ _ g.p);
+          room = g.room;
+          channels = g.stored;
+          p = g.p;
           sixteen = sixteen;
-          indices = λ i h. all_small top f.indices small i;
+          indices = λ i h. fits-largest m _ (all-below (2 ^ m.index_bits) f.indices small i (omega (arith, sixteen)));
         }
 
   -- and what is in range it accepts
-  pub pack_accepts : length part ≡ 16 → Known mode → Plain (mode_numbered mode) f → pack_of mode f part ≡ 0
+  pub pack_accepts : length part ≡ 16 → Known mode → Plain (mode_numbered mode) (block_fields f) → pack_of mode f part ≡ 0
   unfolding pack_of
   pack_accepts sixteen known plain =
-      let g : Good (fixed_at mode f) =
-      record { mode = known; partition = plain.partition; stored = λ k h. plain.channels k (omega (arith, plain.four)); p = le→leb _ _ (le_ones (mode_numbered mode).p_bits plain.p) } in
+      let m : Mode = mode_numbered mode in
+      let g : Good (rgba_candidate (fixed_at mode f)) =
+      record { mode = own-number mode known; partition = plain.partition; room = plain.room; stored = plain.channels; p = plain.p } in
       rw (
         eq-eqb (length part) 16 sixteen,
-        checked (fixed_at mode f) (check_indices mode f.indices 0) g,
-        small_all (largest (mode_numbered mode)) f.indices (λ i h. plain.indices i (omega (arith, plain.sixteen))),
+        checked (rgba_candidate (fixed_at mode f)) (check_indices mode f.indices 0) g,
+        below_all (2 ^ m.index_bits) f.indices (λ i h. largest-fits m _ (plain.indices i (omega (arith, plain.sixteen)))),
       )

@@ -10,17 +10,17 @@ use borrow.Author.Tests.{eqb-true, eq-eqb, ne_eqb, lt-ltb}
 use Rattle.lists.specs.Digits.{zeros_below}
 use Rattle.lists.proofs.Tests.{pick_elim}
 use Rattle.lists.proofs.Digits.{zeros-zero}
-use Rattle.bptc.specs.Mode.{Known, mode_numbered}
-use Rattle.bptc.specs.Colour.{bytes_of}
-use Rattle.bptc.proofs.ColourBounds.{bytes-length}
+use Rattle.bptc.specs.Mode.{mode_numbered}
+use Rattle.bptc.specs.Colour.{pixel_bytes}
+use Rattle.bptc.proofs.Pixels.{bytes_long}
+use Rattle.bptc_block.specs.Fields.{rgb_fields}
 use Rattle.bptc_block.specs.Answers.{Measured, BlockRead, reading_of, unread}
 use Rattle.bptc_block.specs.Packed.{mode_of, fields_of}
 use Rattle.bptc_block.specs.Chapter.{colours, distance}
-use Rattle.bptc_block.specs.Refusal.{check_block, check_readable}
 use Rattle.bptc_block.specs.Checks.{NotDeclined, PixelsChecked, BlockChecked, ReadableChecked}
 use Rattle.bptc_block.specs.ReadCall.{read_refusal, read_of, read_into}
 use Rattle.bptc_block.specs.MeasureCall.{measure_of}
-use Rattle.bptc_block.proofs.Refusals.{number_said, passed, is_mode_lem}
+use Rattle.bptc_block.proofs.Refusals.{Known, number_said, passed, is_mode_lem}
 use Rattle.bptc_block.proofs.Checks.{pixels-checked, block-checked, readable_checked}
 
 -- a block that says mode 1 or 3 does not begin with a zero byte
@@ -76,12 +76,12 @@ module _ (block px : List ℕ) where
     no_refusal = sym read_number ∙ ok
 
     -- the answer of a call that is not declined
-    pub read_answer_lem : read_of block px ≡ reading_of (mode_of block) (fields_of (mode_numbered (mode_of block)) block)
+    pub read_answer_lem : read_of block px ≡ reading_of (mode_of block) (rgb_fields (fields_of (mode_numbered (mode_of block)) block))
     unfolding read_of
     read_answer_lem = rw no_refusal
 
     -- and the part after it
-    pub read-pixels : read_into block px ≡ bytes_of (colours (mode_numbered (mode_of block)) (fields_of (mode_numbered (mode_of block)) block))
+    pub read-pixels : read_into block px ≡ pixel_bytes 3 (colours (mode_numbered (mode_of block)) (fields_of (mode_numbered (mode_of block)) block))
     unfolding read_into
     read-pixels = rw no_refusal
 
@@ -95,19 +95,12 @@ module _ (block px : List ℕ) where
     unfolding read_refusal
     read-pixels-length = eqb-true (length px) 48 (passed (eqb (length px) 48) 0 _ no_refusal).0
 
-    -- such a block has sixteen bytes
-    pub read-sixteen : length block ≡ 16
-    unfolding read_refusal
-    read-sixteen =
-        let e : check_block (length block) (check_readable block 0) ≡ 0 = (passed (eqb (length px) 48) 0 _ no_refusal).1 in
-        eqb-true (length block) 16 (passed (eqb (length block) 16) 1 _ e).0
-
   -- the part keeps its length
   pub read_length : length (read_into block px) ≡ length px
-  unfolding read_into colours
+  unfolding read_into
   read_length =
       pick_elim (λ (bs : List ℕ). length bs ≡ length px) (eqb (read_refusal block px) 0)
-      (λ t. bytes-length _ ∙ sym (read-pixels-length (read_number ∙ eqb-true (read_refusal block px) 0 t)))
+      (λ t. bytes_long 3 (omega arith) _ ∙ sym (read-pixels-length (read_number ∙ eqb-true (read_refusal block px) 0 t)))
       (λ t. refl)
 
   -- so that the checks say the same of it afterwards

@@ -1,21 +1,23 @@
 -- The refusal of a block to be read, by the zero bits below the lowest one bit of byte 0: one test that antt computes over the bytes.
 use Prim.Native.Nat.{ℕ, ◌%◌, ◌<◌}
 use native.Mathlib.Omega.{arith}
-use mathlib.Core.Path.{◌≡◌, sym, ap, ◌∙◌}
+use mathlib.Core.Path.{◌≡◌, refl, sym, ap, ◌∙◌}
 use mathlib.Core.Bool.{Bool}
 use mathlib.Core.Logic.{◌⊎◌, inl, inr}
 use mathlib.Core.List.{List}
 use lib.Count.{count_trailing_zeros}
 use lib.Dec.{ltb, eqb, eqb→eq}
 use lib.ListN.{get_or}
-use borrow.Author.Tests.{ne_eqb, lt-ltb}
+use borrow.Author.Tests.{lt-ltb}
 use Rattle.lists.specs.Tests.{pick}
 use Rattle.lists.specs.Digits.{zeros_below}
+use Rattle.lists.proofs.Tests.{pick_elim}
 use Rattle.lists.proofs.Tables.{tested}
 use Rattle.lists.proofs.Digits.{zeros_is, zeros_of, low_of}
-use Rattle.bptc.specs.Mode.{Known}
+use Rattle.bptc.specs.Mode.{mode_numbered}
 use Rattle.bptc_block.specs.Packed.{mode_of}
 use Rattle.bptc_block.specs.Refusal.{unless, is_mode, check_readable}
+use Rattle.bptc_block.proofs.Refusals.{Known, one_or_three}
 
 -- 0 for modes 1 and 3, 9 for the others, and 8 where no bit is one
 abbrev pub by_zeros : ℕ → ℕ
@@ -26,7 +28,7 @@ abbrev byte_test : ℕ → Bool
 byte_test b = eqb (unless (ltb 0 b) 8 (unless (is_mode (zeros_below 8 b)) 9 0)) (by_zeros (zeros_below 8 b))
 
 by_byte : (b : ℕ) → b < 256 → unless (ltb 0 b) 8 (unless (is_mode (zeros_below 8 b)) 9 0) ≡ by_zeros (zeros_below 8 b)
-unfolding zeros_below
+unfolding zeros_below mode_numbered
 by_byte b h = eqb→eq _ _ (tested byte_test 256 tt b h)
 
 -- the last checks of reading, by the machine's count of trailing zeros
@@ -36,7 +38,8 @@ readable block h = by_byte (get_or block 0 0) h ∙ ap by_zeros (sym (zeros_is 8
 
 -- of a mode that is not 1 or 3
 pub zeros-other : (z : ℕ) → (Known z → ⊥) → z < 8 → by_zeros z ≡ 9
-zeros-other z n h = rw (ne_eqb z 1 (λ e. n (inl e)), ne_eqb z 3 (λ e. n (inr e)), lt-ltb z 8 h)
+zeros-other z n h =
+    pick_elim (λ (x : ℕ). x ≡ pick (ltb z 8) 9 8) (is_mode z) (λ t. absurd (n (one_or_three z t))) (λ t. refl) ∙ ap (λ (t : Bool). pick t 9 8) (lt-ltb z 8 h)
 
 -- a block says mode 1 or 3 by the lowest bits of byte 0
 pub says_known : (block : List ℕ) → (get_or block 0 0 % 4 ≡ 2) ⊎ (get_or block 0 0 % 16 ≡ 8) → Known (mode_of block)

@@ -1,23 +1,30 @@
--- What a candidate is that passes its checks, and what a block is that passes those of reading.
-use Prim.Native.Nat.{ℕ, zero, suc, ◌-◌, ◌^◌, ◌<◌}
-use native.Mathlib.Nat.{lt_of_le_of_lt}
+-- What a candidate is that passes its checks.
+use Prim.Native.Nat.{ℕ, zero, suc, ◌+◌, ◌*◌, ◌/◌, ◌%◌, ◌^◌, ◌<◌}
+use native.Mathlib.Nat.{mod-lt, div-lt_iff_lt-mul}
 use native.Mathlib.Omega.{arith}
 use mathlib.Core.Path.{◌≡◌, refl, sym, ◌∙◌, subst}
 use mathlib.Core.Bool.{Bool, true, false}
-use mathlib.Core.Logic.{inl, inr}
+use mathlib.Core.Logic.{◌⊎◌, inl, inr}
 use mathlib.Core.List.{List, [], ◌∷◌}
-use lib.Dec.{T, lit<, eqb, leb}
+use lib.Dec.{eqb, ltb}
 use lib.ListN.{length, get_or}
-use lib.Pow.{pow_pos, le_ones, lt_of_le_ones}
-use borrow.Author.Tests.{eqb-true, leb-true, le-leb}
-use Rattle.lists.specs.Tests.{pick, or, all}
+use borrow.Author.Tests.{eqb-true, eq-eqb, ltb-true, lt-ltb}
+use Rattle.lists.specs.Tests.{pick}
 use Rattle.lists.proofs.Tests.{pick_elim, and-true}
-use Rattle.bptc.specs.declared.Rgb.{Rgb}
-use Rattle.bptc.specs.Mode.{Known, mode_numbered}
-use Rattle.bptc.specs.Colour.{black, Below}
-use Rattle.bptc.proofs.ColourBounds.{below-black}
+use Rattle.lists.proofs.Rows.{get_or-each}
+use Rattle.bptc.specs.Mode.{Mode, mode_numbered, endpoints, p_bits}
+use Rattle.bptc.specs.Colour.{Rgba, clear, channel}
+use Rattle.bptc.proofs.Modes.{each_mode}
+use Rattle.bptc_block.specs.declared.PBits.{PBits}
+use Rattle.bptc_block.specs.declared.PBits.TheVariants.{Free, Fixed}
 use Rattle.bptc_block.specs.declared.Candidate.{Candidate}
-use Rattle.bptc_block.specs.Refusal.{unless, is_mode, within, in_range, p_in_range, check_candidate}
+use Rattle.bptc_block.specs.RgbaCandidate.{RgbaCandidate, rgba_candidate}
+use Rattle.bptc_block.specs.Fields.{places, stores, channel_values}
+use Rattle.bptc_block.specs.Limits.{Limits, limits, limits_for, BitsWithin, RgbaWithin, CandidateInRange}
+use Rattle.bptc_block.specs.Refusal.{unless, is_mode, below, p_below, check_rgba}
+use Rattle.bptc_block.proofs.Modes.{Lawful, lawful, limits_of}
+use Rattle.bptc_block.proofs.Widths.{channels-length, channel-value, place_lt}
+use Rattle.bptc_block.proofs.Finishing.{Good}
 
 -- the number in an answer: 0 where nothing is declined, and else the refusal's
 pub number_said : {A : Type 0} (number : A → ℕ) (r : ℕ) {a b : A} → number a ≡ 0 → number b ≡ r → number (pick (eqb r 0) a b) ≡ r
@@ -34,86 +41,117 @@ declined true true k l rest ne = absurd (ne refl)
 declined true false k l rest ne = refl
 declined false u k l rest ne = refl
 
--- what the test of a mode says
+-- the number of a mode
+abbrev pub Known : ℕ → Type 0
+Known n = (n ≡ 1) ⊎ (n ≡ 3)
+
+-- what the test of it says
 pub one_or_three : (n : ℕ) → is_mode n ≡ true → Known n
-one_or_three n e = go (eqb n 1) refl e
-  where
-    go : (t : Bool) → eqb n 1 ≡ t → or t (eqb n 3) ≡ true → Known n
-    go true q e = inl (eqb-true n 1 q)
-    go false q e = inr (eqb-true n 3 e)
+one_or_three n e = each_mode (λ (m : Mode). m.number ≡ n → Known n) (λ q. inl (sym q)) (λ q. inr (sym q)) n (eqb-true (mode_numbered n).number n e)
 
 -- and back
 pub is_mode_lem : (n : ℕ) → Known n → is_mode n ≡ true
+unfolding mode_numbered
 is_mode_lem n (inl e) = rw e
 is_mode_lem n (inr e) = rw e
 
--- channels: the test and what it says
-channel : (w : ℕ) {x : ℕ} → leb x (2 ^ w - 1) ≡ true → x < 2 ^ w
-channel w t = lt_of_le_ones w (leb-true _ _ t)
+-- a number that is neither
+pub other_mode : (n : ℕ) → (n ≡ 1 → ⊥) → (n ≡ 3 → ⊥) → is_mode n ≡ false
+other_mode n one three = go (is_mode n) refl
+  where
+    go : (t : Bool) → is_mode n ≡ t → t ≡ false
+    go false e = refl
+    go true e = absurd (neither (one_or_three n e))
+      where
+        neither : Known n → ⊥
+        neither (inl e) = one e
+        neither (inr e) = three e
 
--- from the test
-pub in_range_lem : (w : ℕ) (ends : List Rgb) → in_range (2 ^ w - 1) ends ≡ true → (k : ℕ) → Below (2 ^ w) (get_or ends k black)
-in_range_lem w [] e k = below-black (2 ^ w) (pow_pos w)
-in_range_lem w (c ∷ cs) e zero =
-    let (r, e₁) = and-true _ _ (and-true (within (2 ^ w - 1) c) _ e).0 in
-    let (g, b) = and-true _ _ e₁ in
-    record { r = channel w r; g = channel w g; b = channel w b }
-in_range_lem w (c ∷ cs) e (suc k) = in_range_lem w cs (and-true (within (2 ^ w - 1) c) _ e).1 k
+-- the mode of such a number has it
+pub own-number : (n : ℕ) → Known n → (mode_numbered n).number ≡ n
+own-number n known = eqb-true (mode_numbered n).number n (is_mode_lem n known)
+
+-- its row of the table says what its record says
+pub row-known : (n : ℕ) → Known n → limits_for n limits ≡ limits_of (mode_numbered n)
+unfolding mode_numbered
+row-known n (inl e) = rw e
+row-known n (inr e) = rw e
+
+-- numbers of a list: the test and what it says
+pub all-below : (top : ℕ) (vs : List ℕ) → below top vs ≡ true → (i : ℕ) → i < length vs → get_or vs i 0 < top
+all-below top [] e i h = absurd (omega arith)
+all-below top (v ∷ vs) e zero h = ltb-true v top (and-true (ltb v top) _ e).0
+all-below top (v ∷ vs) e (suc i) h = all-below top vs (and-true (ltb v top) _ e).1 i (omega arith)
 
 -- and back
-pub range_in : (w : ℕ) (ends : List Rgb) → ((k : ℕ) → k < length ends → Below (2 ^ w) (get_or ends k black)) → in_range (2 ^ w - 1) ends ≡ true
-range_in w [] h = refl
-range_in w (c ∷ cs) h =
-    let b : Below (2 ^ w) c = h 0 (omega arith) in
-    rw (le-leb _ _ (le_ones w b.r), le-leb _ _ (le_ones w b.g), le-leb _ _ (le_ones w b.b))
-    (range_in w cs (λ k l. h (suc k) (omega arith)))
+pub below_all : (top : ℕ) (vs : List ℕ) → ((i : ℕ) → i < length vs → get_or vs i 0 < top) → below top vs ≡ true
+below_all top [] h = refl
+below_all top (v ∷ vs) h = rw (lt-ltb v top (h 0 (omega arith))) (below_all top vs (λ i l. h (suc i) (omega arith)))
 
--- indices: the test and what it says
-pub all_small : (top : ℕ) (is : List ℕ) → all (λ (i : ℕ). leb i top) is ≡ true → (i : ℕ) → get_or is i 0 < suc top
-all_small top [] e i = omega arith
-all_small top (x ∷ is) e zero = omega (arith, leb-true x top (and-true (leb x top) _ e).0)
-all_small top (x ∷ is) e (suc i) = all_small top is (and-true (leb x top) _ e).1 i
+-- p-bits: the test and what it says
+pub bits_in_lem : (top : ℕ) (ps : PBits) → p_below top ps ≡ true → BitsWithin top ps
+bits_in_lem top Free e = tt
+bits_in_lem top (Fixed p) e = ltb-true p top e
 
 -- and back
-pub small_all : (top : ℕ) (is : List ℕ) → ((i : ℕ) → i < length is → get_or is i 0 < suc top) → all (λ (i : ℕ). leb i top) is ≡ true
-small_all top [] h = refl
-small_all top (x ∷ is) h = rw (le-leb x top (omega (arith, h 0 (omega arith)))) (small_all top is (λ i l. h (suc i) (omega arith)))
+pub in_bits : (top : ℕ) (ps : PBits) → BitsWithin top ps → p_below top ps ≡ true
+in_bits top Free h = refl
+in_bits top (Fixed p) h = lt-ltb p top h
 
--- a candidate that no check declines
-pub record Good (c : Candidate) : Type 0 where
-  pub mode : Known c.mode
-  pub partition : c.partition < 64
-  pub stored : (k : ℕ) → k < length c.ends → Below (2 ^ (mode_numbered c.mode).channel_bits) (get_or c.ends k black)
-  pub p : T (p_in_range (2 ^ (mode_numbered c.mode).p_bits - 1) c.p)
+module _ (m : Mode) (law : Lawful m) (ends : List Rgba) where
+  -- every channel that the mode looks at
+  pub channels_in : below (2 ^ m.channel_bits) (channel_values m ends) ≡ true → (k : ℕ) → k < endpoints m → (j : ℕ) → j < m.channels → channel j (get_or ends k clear) < 2 ^ m.channel_bits
+  channels_in e k hk j hj =
+      let x : ℕ = j * endpoints m + k in
+      let inside : x < length (channel_values m ends) = rw (channels-length m law ends) (place_lt m law j k hj hk) in
+      subst (λ (v : ℕ). v < 2 ^ m.channel_bits) (channel-value m law ends j k hj hk) (all-below (2 ^ m.channel_bits) (channel_values m ends) e x inside)
 
--- a candidate that passes, and the checks after it
-pub good : (c : Candidate) (rest : ℕ) → check_candidate c rest ≡ 0 → Good c × (rest ≡ 0)
-unfolding check_candidate
-good c rest e =
-    let (m, e₁) = passed _ _ _ e in
-    let (part, e₂) = passed (leb c.partition _) 3 _ e₁ in
-    let (ends, e₃) = passed _ _ _ e₂ in
-    let (p, e₄) = passed (p_in_range (2 ^ (mode_numbered c.mode).p_bits - 1) c.p) 5 rest e₃ in (
+  -- and back
+  pub in_channels : ((k : ℕ) → k < endpoints m → (j : ℕ) → j < m.channels → channel j (get_or ends k clear) < 2 ^ m.channel_bits) → below (2 ^ m.channel_bits) (channel_values m ends) ≡ true
+  unfolding channel_values
+  in_channels h = below_all (2 ^ m.channel_bits) (channel_values m ends) each
+    where
+      each : (i : ℕ) → i < length (channel_values m ends) → get_or (channel_values m ends) i 0 < 2 ^ m.channel_bits
+      each i l =
+          let inside : i < stores m = rw (channels-length m law ends) at l in
+          let some : 0 < endpoints m = omega (arith, law.some) in
+          rw (get_or-each 0 (λ (x : ℕ). channel (x / endpoints m) (get_or ends (x % endpoints m) clear)) (stores m) i inside)
+          (h (i % endpoints m) (mod-lt i some) (i / endpoints m) ((div-lt_iff_lt-mul some).1 inside))
+
+-- a candidate that passes is good, and the later checks decide
+pub good : (c : RgbaCandidate) (rest : ℕ) → length c.ends ≡ places → check_rgba c rest ≡ 0 → Good c × (rest ≡ 0)
+unfolding check_rgba
+good c rest long e =
+    let m : Mode = mode_numbered c.mode in
+    let (mode, e₁) = passed (is_mode c.mode) 2 _ e in
+    let (part, e₂) = passed (ltb c.partition (2 ^ m.partition_bits)) 3 _ e₁ in
+    let (ends, e₃) = passed (below (2 ^ m.channel_bits) (channel_values m c.ends)) 4 _ e₂ in
+    let (p, e₄) = passed (p_below (2 ^ p_bits m) c.p) 5 rest e₃ in (
       record {
-        mode = one_or_three c.mode m;
-        partition = lt_of_le_of_lt (leb-true c.partition _ part) (lit< tt);
-        stored = λ k h. in_range_lem (mode_numbered c.mode).channel_bits c.ends ends k;
-        p = subst T (sym p) tt;
+        mode = eqb-true m.number c.mode mode;
+        partition = ltb-true c.partition _ part;
+        room = long;
+        stored = channels_in m (lawful c.mode) c.ends ends;
+        p = bits_in_lem (2 ^ p_bits m) c.p p;
       },
       e₄,
     )
 
-holds : (t : Bool) → T t → t ≡ true
-holds true t = refl
-holds false t = absurd t
-
 -- and back: its checks decline nothing
-pub checked : (c : Candidate) (rest : ℕ) → Good c → check_candidate c rest ≡ rest
-unfolding check_candidate
+pub checked : (c : RgbaCandidate) (rest : ℕ) → Good c → check_rgba c rest ≡ rest
+unfolding check_rgba
 checked c rest g =
+    let m : Mode = mode_numbered c.mode in
     rw (
-      is_mode_lem c.mode g.mode,
-      le-leb c.partition 63 (omega (arith, g.partition)),
-      range_in (mode_numbered c.mode).channel_bits c.ends g.stored,
-      holds (p_in_range (2 ^ (mode_numbered c.mode).p_bits - 1) c.p) g.p,
+      eq-eqb m.number c.mode g.mode,
+      lt-ltb c.partition (2 ^ m.partition_bits) g.partition,
+      in_channels m (lawful c.mode) c.ends g.stored,
+      in_bits (2 ^ p_bits m) c.p g.p,
     )
+
+-- a candidate in range is of a known mode, and its candidate is good
+pub candidate_good : (c : Candidate) → CandidateInRange c → Known c.mode × Good (rgba_candidate c)
+candidate_good c (known, within) =
+    let w : RgbaWithin (limits_of (mode_numbered c.mode)) (rgba_candidate c) =
+    subst (λ (row : Limits). RgbaWithin row (rgba_candidate c)) (row-known c.mode known) within in
+    (known, record { mode = own-number c.mode known; partition = w.partition; room = w.room; stored = w.channels; p = w.p })

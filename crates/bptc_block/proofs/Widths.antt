@@ -1,172 +1,288 @@
 -- Laws of a block's fields: they fit their widths, and their values and they make each other.
-use Prim.Native.Nat.{ℕ, suc, ◌+◌, ◌-◌, ◌*◌, ◌^◌, ◌<◌, ◌≤◌}
-use native.Mathlib.Nat.{add_comm, le_refl, lt_of_lt_of_le}
+use Prim.Native.Nat.{ℕ, zero, suc, ◌+◌, ◌-◌, ◌*◌, ◌/◌, ◌%◌, ◌^◌, ◌<◌, ◌≤◌}
+use native.Mathlib.Nat.{le_refl, lt_of_lt_of_le, mod-lt, div-lt_iff_lt-mul, div-add-mod'}
 use native.Mathlib.Omega.{arith}
-use mathlib.Core.Path.{◌≡◌, refl, sym, ap, ◌∙◌, subst}
-use mathlib.Core.List.{List, [], ◌∷◌, ◌++◌, map, append-nil, append_assoc}
-use borrow.Author.Tests.{eqb-true}
-use lib.Dec.{eqb}
-use lib.ListN.{length, get_or, replicate, length-map, length-append}
-use lib.Pow.{pow-lt, pow_mono}
-use lib.Seq.{get_or-drop}
+use mathlib.Core.Path.{◌≡◌, refl, sym, ap, ap₂, ◌∙◌, subst}
+use mathlib.Core.Bool.{Bool, true, false}
+use mathlib.Core.List.{List, ◌∷◌, ◌++◌, map}
+use lib.Arith.{digits_lt, digits_div, digits_mod}
+use lib.Dec.{eqb, ltb}
+use lib.ListN.{length, get_or, take, drop, replicate, length-map, length-append, length-replicate, length-drop, get_or-replicate, get_or-append, get_or-eq_default}
+use lib.Pow.{pow-lt, pow_mono, le_ones, lt_of_le_ones}
+use lib.Seq.{get_or-drop, get_or-take, drop-drop, drop-cons, split_at, length-take-le, get_or_at, drop-append-add, get_or-append-add}
+use borrow.Author.Tests.{lt-ltb, le-ltb, ltb-true, ltb-false, eqb-true}
+use Rattle.lists.specs.Tests.{pick, and}
 use Rattle.lists.specs.Rows.{up_from}
-use Rattle.lists.specs.Bits.{Fits, more, join}
 use Rattle.lists.proofs.Tests.{pick_elim}
-use Rattle.lists.proofs.Rows.{get_or-map, get_or-each, listed}
-use Rattle.lists.proofs.Bits.{fits_append, fits_places, fits-same, join-later, join-then, join_single}
-use Rattle.bptc.specs.declared.Rgb.{Rgb}
-use Rattle.bptc.specs.Mode.{Mode, largest}
-use Rattle.bptc.specs.Partition.{anchor_of}
-use Rattle.bptc.specs.Colour.{black, Below}
-use Rattle.bptc.proofs.Largest.{largest-fits, fits-largest}
-use Rattle.bptc_block.specs.declared.Fields.{Fields}
-use Rattle.bptc_block.specs.Fields.{Plain, WellFormed, index_width, channel_values, front_widths, front_values, widths, values, made}
+use Rattle.lists.proofs.Rows.{length-up_from, get_or-each, each_same, listed}
+use Rattle.lists.specs.Internal.Fields.{Fits}
+use Rattle.lists.specs.Internal.Fields.{more}
+use Rattle.lists.proofs.Bits.{fits_append, fits_places}
+use Rattle.bptc.specs.Colour.{Rgba}
+use Rattle.bptc_block.specs.Fields.{BlockFields, places}
+use Rattle.bptc.specs.Mode.{Mode, endpoints, p_bits, largest}
+use Rattle.bptc.specs.Partition.{subset_in, anchor_in}
+use Rattle.bptc.specs.Colour.{colour_by, channel, clear}
+use Rattle.bptc_block.specs.Fields.{index_width, Plain, Clean, WellFormed, stores, widths, channel_values, values, value_at, made}
+use Rattle.bptc.proofs.Colours.{by_same, colour-channels, channel_by, channel_past}
+use Rattle.bptc_block.proofs.Modes.{Lawful, subset-below}
 
--- indices in range, with the top bit 0 at pixel 0 and at the anchor, fit their widths
-pub index-fits :
-    (m : Mode) (part : ℕ) (is : List ℕ) → ((i : ℕ) → i < 16 → get_or is i 0 < suc (largest m)) → get_or is 0 0 < 2 ^ (m.index_bits - 1) →
-    get_or is (anchor_of part) 0 < 2 ^ (m.index_bits - 1) → (i : ℕ) → i < 16 → get_or is i 0 < 2 ^ index_width m part i
-unfolding index_width
-index-fits m part is each first anchor i h =
-    pick_elim (λ (w : ℕ). get_or is i 0 < 2 ^ w) (eqb i 0) (λ t. rw (eqb-true i 0 t) first)
-    (λ t.
-    pick_elim (λ (w : ℕ). get_or is i 0 < 2 ^ w) (eqb i (anchor_of part)) (λ u. rw (eqb-true i (anchor_of part) u) anchor)
-    (λ u. largest-fits m _ (each i h)))
+-- an index up to the largest has the mode's bits
+pub largest-fits : (m : Mode) (i : ℕ) → i < suc (largest m) → i < 2 ^ m.index_bits
+unfolding largest
+largest-fits m i h = lt_of_le_ones m.index_bits (omega arith)
+
+-- and back
+pub fits-largest : (m : Mode) (i : ℕ) → i < 2 ^ m.index_bits → i < suc (largest m)
+unfolding largest
+fits-largest m i h = omega (arith, le_ones m.index_bits h)
 
 width_small : (m : Mode) (part i : ℕ) → index_width m part i ≤ m.index_bits
 unfolding index_width
 width_small m part i =
-    pick_elim (λ (w : ℕ). w ≤ m.index_bits) (eqb i 0) (λ t. omega arith)
-    (λ t. pick_elim (λ (w : ℕ). w ≤ m.index_bits) (eqb i (anchor_of part)) (λ u. omega arith) (λ u. le_refl _))
+    pick_elim (λ (w : ℕ). w ≤ m.index_bits) (eqb i (anchor_in m part (subset_in m part i))) (λ t. omega arith) (λ t. le_refl _)
 
 -- what a block can hold may be packed
-pub plain_of : (m : Mode) (f : Fields) → WellFormed m f → Plain m f
+pub plain_of : (m : Mode) (f : BlockFields) → WellFormed m f → Plain m f
 plain_of m f w =
     record {
-      partition = w.partition;
-      four = w.four;
-      channels = w.channels;
-      p = w.p;
-      sixteen = w.sixteen;
-      indices = λ i h. fits-largest m _ (lt_of_lt_of_le (w.indices i h) (pow_mono (width_small m f.partition i)));
+      partition = w.within.partition;
+      room = w.within.room;
+      channels = w.within.channels;
+      p = w.within.p;
+      sixteen = w.within.sixteen;
+      indices = λ i h. fits-largest m _ (lt_of_lt_of_le (w.within.indices i h) (pow_mono (width_small m f.partition i)));
     }
 
--- a block has 31 fields
-pub length-widths : (m : Mode) (part : ℕ) → length (widths m part) ≡ 31
-unfolding widths
-length-widths m part = refl
+-- clear has no channel
+pub channel-clear : (j : ℕ) → channel j clear ≡ 0
+unfolding channel
+channel-clear zero = refl
+channel-clear (suc zero) = refl
+channel-clear (suc (suc zero)) = refl
+channel-clear (suc (suc (suc zero))) = refl
+channel-clear (suc (suc (suc (suc j)))) = refl
 
--- the last sixteen are the indices
-pub width_at : (m : Mode) (part i : ℕ) → i < 16 → get_or (widths m part) (15 + i) 0 ≡ index_width m part i
-unfolding widths
-width_at m part i h = sym (get_or-drop 15 (widths m part) i 0) ∙ get_or-each 0 (index_width m part) 16 i h
+-- indices with the top bit 0 at every anchor fit their widths
+pub index-fits : (m : Mode) (law : Lawful m) (part : ℕ) (is : List ℕ) → ((i : ℕ) → i < 16 → get_or is i 0 < suc (largest m)) →
+    ((s : ℕ) → s < m.subsets → get_or is (anchor_in m part s) 0 < 2 ^ (m.index_bits - 1)) → (i : ℕ) → i < 16 → get_or is i 0 < 2 ^ index_width m part i
+unfolding index_width
+index-fits m law part is each low i h =
+    let s : ℕ = subset_in m part i in
+    pick_elim (λ (w : ℕ). get_or is i 0 < 2 ^ w) (eqb i (anchor_in m part s))
+    (λ t. subst (λ (a : ℕ). get_or is a 0 < 2 ^ (m.index_bits - 1)) (sym (eqb-true i (anchor_in m part s) t)) (low s (subset-below m law part i)))
+    (λ t. largest-fits m _ (each i h))
 
--- the fields of values, and the values of fields
-pub made-values : (m : Mode) (f : Fields) → length f.ends ≡ 4 → made (values m f) ≡ f
-unfolding made values
-made-values m f e =
-    let with-ends : List Rgb → Fields = λ es. record { partition = f.partition; ends = es; p = f.p; indices = f.indices } in
-    subst (λ (es : List Rgb). made (values m (with-ends es)) ≡ with-ends es) (listed black f.ends 4 e) refl
+module _ (m : Mode) (law : Lawful m) where
+  positive : 0 < endpoints m
+  positive = omega (arith, law.some)
 
--- where the first value says the mode
-pub values-made : (m : Mode) (vs : List ℕ) → length vs ≡ 31 → get_or vs 0 0 ≡ 2 ^ m.number → values m (made vs) ≡ vs
-unfolding made values
-values-made m vs e h = subst (λ (l : List ℕ). values m (made l) ≡ l) (listed 0 vs 31 e) (rw h)
+  six_enough : endpoints m ≤ places
+  six_enough = omega (arith, law.few)
 
-fits-channel : (w : ℕ) (g : Rgb → ℕ) (es : List Rgb) → length es ≡ 4 → ((k : ℕ) → k < 4 → g (get_or es k black) < 2 ^ w) → Fits (replicate 4 w) (map g es)
-fits-channel w g es e h =
-    subst (λ (n : ℕ). Fits (replicate n w) (map g es)) (length-map es g ∙ e)
-    (fits-same w (map g es)
-    (λ i l.
-    let k : i < length es = rw length-map at l in
-    rw (get_or-map 0 black g es i k) (h i (omega arith))))
+  -- a channel is among them
+  pub place_lt : (j k : ℕ) → j < m.channels → k < endpoints m → j * endpoints m + k < stores m
+  place_lt j k hj hk = digits_lt hj hk
 
-module _ (number bits part : ℕ) (es : List Rgb) (four : length es ≡ 4) where
-  -- these fit where what follows does
-  pub fits_front : {us xs : List ℕ} → part < 64 → ((k : ℕ) → k < 4 → Below (2 ^ bits) (get_or es k black)) → Fits us xs → Fits (front_widths number bits us) (front_values number part es xs)
-  fits_front inside stored fit =
-      more (pow-lt {i = number} {j = number + 1} (omega arith)) (more inside
-      (fits_append (fits-channel (bits) (λ (c : Rgb). c.r) es four (λ k h. (stored k h).r))
-      (fits_append (fits-channel (bits) (λ (c : Rgb). c.g) es four (λ k h. (stored k h).g))
-      (fits_append (fits-channel (bits) (λ (c : Rgb). c.b) es four (λ k h. (stored k h).b)) fit))))
+  -- there are as many values as stored channels
+  pub channels-length : (ends : List Rgba) → length (channel_values m ends) ≡ stores m
+  unfolding channel_values
+  channels-length ends = length-map (up_from 0 (stores m)) _ ∙ length-up_from (stores m) 0
 
-  later : (g : Rgb → ℕ) (us xs us' xs' : List ℕ) → join us xs ≡ join us' xs' →
-      join (replicate 4 (bits) ++ us) (map g es ++ xs) ≡ join (replicate 4 (bits) ++ us') (map g es ++ xs')
-  later g us xs us' xs' = join-later (replicate 4 (bits)) (map g es) us xs us' xs' (length-map es g ∙ four)
+  -- a channel among the values
+  pub channel-value : (ends : List Rgba) (j k : ℕ) → j < m.channels → k < endpoints m → get_or (channel_values m ends) (j * endpoints m + k) 0 ≡ channel j (get_or ends k clear)
+  unfolding channel_values
+  channel-value ends j k hj hk =
+      get_or-each 0 (λ (x : ℕ). channel (x / endpoints m) (get_or ends (x % endpoints m) clear)) (stores m) (j * endpoints m + k) (place_lt j k hj hk)
+      ∙ ap₂ (λ (a b : ℕ). channel a (get_or ends b clear)) (digits_div j hk) (digits_mod j hk)
 
-  -- what follows may be laid out in other fields
-  pub join_front : (us xs us' xs' : List ℕ) → join us xs ≡ join us' xs' → join (front_widths number bits us) (front_values number part es xs) ≡ join (front_widths number bits us') (front_values number part es xs')
-  unfolding join
-  join_front us xs us' xs' same =
-      let w : List ℕ → List ℕ = λ ws. replicate 4 (bits) ++ ws in
-      let b : List ℕ → List ℕ = λ vs. map (λ (c : Rgb). c.b) es ++ vs in
-      let g : List ℕ → List ℕ = λ vs. map (λ (c : Rgb). c.g) es ++ vs in
-      ap (λ (x : ℕ). (x * 2 ^ 6 + part) * 2 ^ (number + 1) + 2 ^ number)
-      (later (λ (c : Rgb). c.r) (w (w us)) (g (b xs)) (w (w us')) (g (b xs'))
-      (later (λ (c : Rgb). c.g) (w us) (b xs) (w us') (b xs') (later (λ (c : Rgb). c.b) us xs us' xs' same)))
+  -- a channel's place in all values
+  value_in : (f : BlockFields) (x : ℕ) → x < stores m → get_or (values m f) (2 + x) 0 ≡ get_or (channel_values m f.ends) x 0
+  unfolding values
+  value_in f x h = sym (get_or-drop 2 (values m f) x 0) ∙ get_or-append (channel_values m f.ends) (f.p ∷ f.indices) 0 x (rw channels-length h)
 
--- the values of fields fit their widths
-pub fits-values : (m : Mode) (f : Fields) → WellFormed m f → Fits (widths m f.partition) (values m f)
-unfolding widths values
-fits-values m f w =
-    fits_front m.number m.channel_bits f.partition f.ends w.four w.partition w.channels
-    (more w.p
-    (fits_places (map (index_width m f.partition) (up_from 0 16)) f.indices w.sixteen
-    (λ i l. rw (get_or-each 0 (index_width m f.partition) 16 i l) (w.indices i l))))
+  -- a value that the mode has
+  value-at : (vs : List ℕ) (k j : ℕ) → k < endpoints m → j < m.channels → value_at m vs k j ≡ get_or vs (2 + (j * endpoints m + k)) 0
+  unfolding value_at
+  value-at vs k j hk hj = rw (lt-ltb k (endpoints m) hk, lt-ltb j m.channels hj)
 
-channels-length : (ends : List Rgb) → length ends ≡ 4 → length (channel_values ends []) ≡ 12
-channels-length ends four = simp (length-append, length-map) (omega (arith, four))
+  -- and those that it does not have
+  value_late : (vs : List ℕ) (k j : ℕ) → endpoints m ≤ k → value_at m vs k j ≡ 0
+  unfolding value_at
+  value_late vs k j h = rw (le-ltb k (endpoints m) h)
 
-channels_rest : (ends : List Rgb) (rest : List ℕ) → channel_values ends [] ++ rest ≡ channel_values ends rest
-channels_rest ends rest = rw (append-nil, append_assoc, append_assoc)
+  value-alpha : (vs : List ℕ) (k j : ℕ) → m.channels ≤ j → value_at m vs k j ≡ 0
+  unfolding value_at
+  value-alpha vs k j h = go (ltb k (endpoints m))
+    where
+      go : (t : Bool) → pick (and t (ltb j m.channels)) (get_or vs (2 + (j * endpoints m + k)) 0) 0 ≡ 0
+      go true = rw (le-ltb j m.channels h)
+      go false = refl
 
--- a channel of each of four endpoints
-abbrev pub channel_of : (Rgb → ℕ) → List Rgb → List ℕ
-channel_of g ends = map (λ (k : ℕ). g (get_or ends k black)) (up_from 0 4)
+  end_made : (f : BlockFields) → Clean m f → (k : ℕ) → colour_by (value_at m (values m f) k) ≡ get_or f.ends k clear
+  end_made f clean k = by_same _ _ (λ j l. go j (ltb k (endpoints m)) refl (ltb j m.channels) refl) ∙ colour-channels (get_or f.ends k clear)
+    where
+      go : (j : ℕ) (t : Bool) → ltb k (endpoints m) ≡ t → (u : Bool) → ltb j m.channels ≡ u → value_at m (values m f) k j ≡ channel j (get_or f.ends k clear)
+      go j true e true d =
+          let hk : k < endpoints m = ltb-true k (endpoints m) e in
+          let hj : j < m.channels = ltb-true j m.channels d in
+          value-at (values m f) k j hk hj ∙ value_in f (j * endpoints m + k) (place_lt j k hj hk) ∙ channel-value f.ends j k hj hk
+      go j true e false d = value-alpha (values m f) k j (ltb-false j _ d) ∙ sym (clean.alpha k j (ltb-false j _ d))
+      go j false e u d = value_late (values m f) k j (ltb-false k _ e) ∙ sym (clean.later k j (ltb-false k _ e))
 
--- the channels of four endpoints, written one colour after the other: h after each, and b the place after it
-module _ (bits h₀ b₀ : ℕ) (ends : List Rgb) (four : length ends ≡ 4) where
-  -- their number in the end
-  pub channel_steps : (h₁ b₁ : ℕ) {h₂ h₃ b₂ : ℕ} → h₁ ≡ h₀ + join (replicate 4 bits) (channel_of (λ c. c.r) ends) * 2 ^ b₀ → b₁ ≡ b₀ + 4 * bits →
-      h₂ ≡ h₁ + join (replicate 4 bits) (channel_of (λ c. c.g) ends) * 2 ^ b₁ → b₂ ≡ b₁ + 4 * bits →
-      h₃ ≡ h₂ + join (replicate 4 bits) (channel_of (λ c. c.b) ends) * 2 ^ b₂ → h₃ ≡ h₀ + join (replicate 12 bits) (channel_values ends []) * 2 ^ b₀
-  channel_steps h₁ b₁ {h₂} {h₃} {b₂} e₁ p₁ e₂ p₂ e₃ =
-      let r₄ : List ℕ = replicate 4 bits in
-      let greens : List ℕ = channel_of (λ c. c.g) ends in
-      let blues : List ℕ = channel_of (λ c. c.b) ends in
-      let later : h₃ ≡ h₁ + join (r₄ ++ r₄) (greens ++ blues) * 2 ^ b₁ = e₃ ∙ rw e₂ (join-then r₄ greens r₄ blues h₁ b₁ b₂ refl (omega (arith, p₂))) in
-      let all : h₃ ≡ h₀ + join (r₄ ++ (r₄ ++ r₄)) (channel_of (λ c. c.r) ends ++ (greens ++ blues)) * 2 ^ b₀ =
-      later ∙ rw e₁ (join-then r₄ (channel_of (λ c. c.r) ends) (r₄ ++ r₄) (greens ++ blues) h₀ b₀ b₁ refl (omega (arith, p₁))) in
-      all
-      ∙ ap (λ (es : List Rgb). h₀ + join (replicate 12 bits) (channel_values es []) * 2 ^ b₀) (listed black ends 4 four)
+  p-made : (f : BlockFields) → get_or (values m f) (2 + stores m) 0 ≡ f.p
+  unfolding values
+  p-made f = sym (get_or-drop 2 (values m f) (stores m) 0) ∙ get_or_at (channel_values m f.ends) f.p f.indices 0 (stores m) (channels-length f.ends)
 
--- the fields of a block, written one after the other: h after each of them, and b the place after it
-module _ (number bits bs w part p n : ℕ) (ends : List Rgb) (four : length ends ≡ 4) where
-  -- the p-bits and the indexes
-  abbrev tail : ℕ
-  tail = join (bs ∷ (w ∷ [])) (p ∷ (n ∷ []))
+  indices-made : (f : BlockFields) → drop (3 + stores m) (values m f) ≡ f.indices
+  unfolding values
+  indices-made f =
+      let e : 3 + stores m ≡ 2 + (stores m + 1) = omega arith in
+      let cs : List ℕ = channel_values m f.ends in
+      ap (λ (n : ℕ). drop n (values m f)) e
+      ∙ sym (drop-drop (stores m + 1) 2 (values m f))
+      ∙ ap (λ (n : ℕ). drop (n + 1) (cs ++ (f.p ∷ f.indices))) (sym (channels-length f.ends))
+      ∙ drop-append-add cs (f.p ∷ f.indices) 1
 
-  -- these, and the channels before them
-  abbrev stored : ℕ
-  stored = join (replicate 12 bits ++ (bs ∷ (w ∷ []))) (channel_values ends [] ++ (p ∷ (n ∷ [])))
+  part-made : (f : BlockFields) → get_or (values m f) 1 0 ≡ f.partition
+  unfolding values
+  part-made f = refl
 
-  tail_steps : (h₃ b₃ : ℕ) {h₄ h₅ b₄ : ℕ} → h₄ ≡ h₃ + p * 2 ^ b₃ → b₄ ≡ b₃ + bs → h₅ ≡ h₄ + n * 2 ^ b₄ → h₅ ≡ h₃ + tail * 2 ^ b₃
-  tail_steps h₃ b₃ {h₄} {h₅} {b₄} e₄ p₄ e₅ =
-      e₅ ∙ rw e₄ (rw (join_single bs p, join_single w n) at (join-then (bs ∷ []) (p ∷ []) (w ∷ []) (n ∷ []) h₃ b₃ b₄ refl (omega (arith, p₄))))
+  -- the fields of values
+  pub made-values : (f : BlockFields) → WellFormed m f → made m (values m f) ≡ f
+  unfolding made
+  made-values f w =
+      let ends : map (λ (k : ℕ). colour_by (value_at m (values m f) k)) (up_from 0 places) ≡ f.ends =
+      each_same clear _ (λ (k : ℕ). get_or f.ends k clear) places (λ k h. end_made f w.clean k) ∙ listed clear f.ends places w.within.room in
+      λ t. record { partition = part-made f t; ends = ends t; p = p-made f t; indices = indices-made f t }
 
-  stored_steps : (h₂ b₂ : ℕ) {h₃ h₅ b₃ : ℕ} → h₃ ≡ h₂ + join (replicate 12 bits) (channel_values ends []) * 2 ^ b₂ → b₃ ≡ b₂ + 12 * bits → h₅ ≡ h₃ + tail * 2 ^ b₃ → h₅ ≡ h₂ + stored * 2 ^ b₂
-  stored_steps h₂ b₂ {h₃} {h₅} {b₃} e₃ p₃ e = e ∙ rw e₃ (join-then (replicate 12 bits) (channel_values ends []) (bs ∷ (w ∷ [])) (p ∷ (n ∷ [])) h₂ b₂ b₃ (channels-length ends four) (omega (arith, p₃)))
+  -- endpoint k of what was made
+  pub made_end : (vs : List ℕ) (k : ℕ) → k < places → get_or (made m vs).ends k clear ≡ colour_by (value_at m vs k)
+  unfolding made
+  made_end vs k h = get_or-each clear (λ (k : ℕ). colour_by (value_at m vs k)) places k h
 
-  -- their number in the end
-  pub front_steps : {h₁ h₂ h₃ h₄ h₅ b₁ b₂ b₃ b₄ : ℕ} → h₁ ≡ 2 ^ number → b₁ ≡ number + 1 → h₂ ≡ h₁ + part * 2 ^ b₁ → b₂ ≡ b₁ + 6 →
-      h₃ ≡ h₂ + join (replicate 12 bits) (channel_values ends []) * 2 ^ b₂ → b₃ ≡ b₂ + 12 * bits → h₄ ≡ h₃ + p * 2 ^ b₃ → b₄ ≡ b₃ + bs → h₅ ≡ h₄ + n * 2 ^ b₄ →
-      h₅ ≡ join (front_widths number bits (bs ∷ (w ∷ []))) (front_values number part ends (p ∷ (n ∷ [])))
-  unfolding join
-  front_steps {h₁} {h₂} {h₃} {h₄} {h₅} {b₁} {b₂} {b₃} {b₄} e₁ p₁ e₂ p₂ e₃ p₃ e₄ p₄ e₅ =
-      let second : h₁ + part * 2 ^ b₁ + stored * 2 ^ b₂ ≡ h₁ + (stored * 2 ^ 6 + part) * 2 ^ b₁ =
-      rw (join_single 6 part) at (join-then (6 ∷ []) (part ∷ []) (replicate 12 bits ++ (bs ∷ (w ∷ []))) (channel_values ends [] ++ (p ∷ (n ∷ []))) h₁ b₁ b₂ refl (omega (arith, p₂))) in
-      stored_steps h₂ b₂ e₃ p₃ (tail_steps h₃ b₃ e₄ p₄ e₅)
-      ∙ ap (λ (h : ℕ). h + stored * 2 ^ b₂) e₂
-      ∙ second
-      ∙ rw (e₁, p₁) (add_comm (2 ^ number) ((stored * 2 ^ 6 + part) * 2 ^ (number + 1)))
-      ∙ ap (λ (vs : List ℕ). (join (replicate 12 bits ++ (bs ∷ (w ∷ []))) vs * 2 ^ 6 + part) * 2 ^ (number + 1) + 2 ^ number) (channels_rest ends (p ∷ (n ∷ [])))
+  made-channel : (vs : List ℕ) (j k : ℕ) → j < m.channels → k < endpoints m → channel j (get_or (made m vs).ends k clear) ≡ get_or vs (2 + (j * endpoints m + k)) 0
+  made-channel vs j k hj hk =
+      ap (channel j) (made_end vs k (lt_of_lt_of_le hk six_enough))
+      ∙ channel_by (value_at m vs k) j (lt_of_lt_of_le hj law.shades.seen)
+      ∙ value-at vs k j hk hj
+
+  channels-made : (vs : List ℕ) → 2 + stores m ≤ length vs → channel_values m (made m vs).ends ≡ take (stores m) (drop 2 vs)
+  unfolding channel_values
+  channels-made vs long =
+      each_same 0 _ (λ (x : ℕ). get_or (take (stores m) (drop 2 vs)) x 0) (stores m) each
+      ∙ listed 0 (take (stores m) (drop 2 vs)) (stores m) (length-take-le (stores m) (drop 2 vs) (simp length-drop (omega arith)))
+    where
+      each : (x : ℕ) → x < stores m → channel (x / endpoints m) (get_or (made m vs).ends (x % endpoints m) clear) ≡ get_or (take (stores m) (drop 2 vs)) x 0
+      each x h =
+          made-channel vs (x / endpoints m) (x % endpoints m) ((div-lt_iff_lt-mul positive).1 h) (mod-lt x positive)
+          ∙ ap (λ (y : ℕ). get_or vs (2 + y) 0) (div-add-mod' x (endpoints m))
+          ∙ sym (get_or-take (stores m) (drop 2 vs) x 0 h ∙ get_or-drop 2 vs x 0)
+
+  -- the values of fields, where the first value says the mode
+  pub values-made : (vs : List ℕ) → length vs ≡ 19 + stores m → get_or vs 0 0 ≡ 2 ^ m.number → values m (made m vs) ≡ vs
+  unfolding values made
+  values-made vs e h =
+      let N : ℕ = stores m in
+      let rest : List ℕ = drop 2 vs in
+      let first : vs ≡ get_or vs 0 0 ∷ drop 1 vs = drop-cons vs 0 0 (omega arith) in
+      let second : drop 1 vs ≡ get_or vs 1 0 ∷ rest = drop-cons vs 1 0 (omega arith) in
+      let third : rest ≡ take N rest ++ (get_or rest N 0 ∷ drop (suc N) rest) = split_at rest N 0 (simp length-drop (omega arith)) in
+      let same : channel_values m (made m vs).ends ≡ take N rest = channels-made vs (omega arith) in
+      let p : get_or vs (2 + N) 0 ≡ get_or rest N 0 = sym (get_or-drop 2 vs N 0) in
+      let three : 3 + N ≡ 2 + suc N = omega arith in
+      let is : drop (3 + N) vs ≡ drop (suc N) rest = ap (λ (n : ℕ). drop n vs) three ∙ sym (drop-drop (suc N) 2 vs) in
+      ap₂ (λ (a : ℕ) (l : List ℕ). a ∷ (get_or vs 1 0 ∷ l)) (sym h)
+      (ap₂ (λ (a : List ℕ) (l : List ℕ). a ++ l) same (ap₂ (λ (a : ℕ) (l : List ℕ). a ∷ l) p is) ∙ sym third)
+      ∙ sym (first ∙ ap (λ (l : List ℕ). get_or vs 0 0 ∷ l) second)
+
+  -- the channels fit
+  pub channel-fits : (f : BlockFields) → WellFormed m f →
+      (i : ℕ) → i < length (replicate (stores m) m.channel_bits) → get_or (channel_values m f.ends) i 0 < 2 ^ get_or (replicate (stores m) m.channel_bits) i 0
+  unfolding channel_values
+  channel-fits f w i l =
+      let h : i < stores m = rw length-replicate at l in
+      rw (get_or-replicate (stores m) i m.channel_bits 0 h, get_or-each 0 (λ (x : ℕ). channel (x / endpoints m) (get_or f.ends (x % endpoints m) clear)) (stores m) i h)
+      (w.within.channels (i % endpoints m) (mod-lt i positive) (i / endpoints m) ((div-lt_iff_lt-mul positive).1 h))
+
+  -- the values of fields fit their widths
+  pub fits-values : (f : BlockFields) → WellFormed m f → Fits (widths m f.partition) (values m f)
+  unfolding widths values
+  fits-values f w =
+      let cs : List ℕ = channel_values m f.ends in
+      more (pow-lt {i = m.number} {j = m.number + 1} (omega arith)) (more w.within.partition
+      (fits_append
+      (fits_places (replicate (stores m) m.channel_bits) cs (channels-length f.ends ∙ sym (length-replicate (stores m) m.channel_bits)) (channel-fits f w))
+      (more w.within.p
+      (fits_places (map (index_width m f.partition) (up_from 0 16)) f.indices w.within.sixteen
+      (λ i l. rw (get_or-each 0 (index_width m f.partition) 16 i l) (w.within.indices i l))))))
+
+  module _ (part : ℕ) where
+    -- the number of fields
+    pub length-widths : length (widths m part) ≡ 19 + stores m
+    unfolding widths
+    length-widths = simp (length-append, length-replicate) (omega arith)
+
+    -- the widths of the channels
+    pub channel_width : (x : ℕ) → x < stores m → get_or (widths m part) (2 + x) 0 ≡ m.channel_bits
+    unfolding widths
+    channel_width x h =
+        sym (get_or-drop 2 (widths m part) x 0)
+        ∙ get_or-append (replicate (stores m) m.channel_bits) (p_bits m ∷ map (index_width m part) (up_from 0 16)) 0 x (rw length-replicate h)
+        ∙ get_or-replicate (stores m) x m.channel_bits 0 h
+
+    -- of the p-bits
+    pub bits_width : get_or (widths m part) (2 + stores m) 0 ≡ p_bits m
+    unfolding widths
+    bits_width =
+        sym (get_or-drop 2 (widths m part) (stores m) 0)
+        ∙ get_or_at (replicate (stores m) m.channel_bits) (p_bits m) (map (index_width m part) (up_from 0 16)) 0 (stores m) (length-replicate (stores m) m.channel_bits)
+
+    -- and of the indices
+    pub width_at : (i : ℕ) → i < 16 → get_or (widths m part) (3 + stores m + i) 0 ≡ index_width m part i
+    unfolding widths
+    width_at i h =
+        let e : 3 + stores m + i ≡ 2 + (stores m + suc i) = omega arith in
+        let rs : List ℕ = replicate (stores m) m.channel_bits in
+        let ws : List ℕ = p_bits m ∷ map (index_width m part) (up_from 0 16) in
+        ap (λ (n : ℕ). get_or (widths m part) n 0) e
+        ∙ sym (get_or-drop 2 (widths m part) (stores m + suc i) 0)
+        ∙ ap (λ (n : ℕ). get_or (rs ++ ws) (n + suc i) 0) (sym (length-replicate (stores m) m.channel_bits))
+        ∙ get_or-append-add rs ws (suc i) 0
+        ∙ get_or-each 0 (index_width m part) 16 i h
+
+  -- what the values of such widths make is well formed, where their partition is the widths' own
+  module _ (part : ℕ) (vs : List ℕ) (long : length vs ≡ 19 + stores m) (fits : (i : ℕ) → get_or vs i 0 < 2 ^ get_or (widths m part) i 0) (own : get_or vs 1 0 ≡ part) where
+    made_none : (k j : ℕ) → value_at m vs k j ≡ 0 → channel j (get_or (made m vs).ends k clear) ≡ 0
+    unfolding made
+    made_none k j e = go (ltb k places) refl (ltb j 4) refl
+      where
+        go : (t : Bool) → ltb k places ≡ t → (u : Bool) → ltb j 4 ≡ u → channel j (get_or (made m vs).ends k clear) ≡ 0
+        go true d true u = ap (channel j) (made_end vs k (ltb-true k places d)) ∙ channel_by (value_at m vs k) j (ltb-true j 4 u) ∙ e
+        go true d false u = channel_past _ j (ltb-false j 4 u)
+        go false d u v =
+            ap (channel j) (get_or-eq_default (map (λ (k : ℕ). colour_by (value_at m vs k)) (up_from 0 places)) clear {n = k} (ltb-false k places d)) ∙ channel-clear j
+
+    clean : Clean m (made m vs)
+    clean = record { alpha = λ k j h. made_none k j (value-alpha vs k j h); later = λ k j h. made_none k j (value_late vs k j h) }
+
+    partition-fits : get_or vs 1 0 < 2 ^ m.partition_bits
+    unfolding widths
+    partition-fits = fits 1
+
+    pub made_formed : WellFormed m (made m vs)
+    unfolding made
+    made_formed =
+        record {
+          within = record {
+            partition = partition-fits;
+            room = refl;
+            channels = λ k hk j hj.
+                subst (λ (v : ℕ). v < 2 ^ m.channel_bits) (sym (made-channel vs j k hj hk))
+                (rw (channel_width part (j * endpoints m + k) (place_lt j k hj hk)) at (fits (2 + (j * endpoints m + k))));
+            p = rw (bits_width part) at (fits (2 + stores m));
+            sixteen = rw (length-drop (3 + stores m) vs) (omega arith);
+            indices = λ i h. rw (own, get_or-drop (3 + stores m) vs i 0) (rw (width_at part i h) at (fits (3 + stores m + i)));
+          };
+          clean = clean;
+        }

@@ -10,14 +10,20 @@ use Rattle.lists.specs.Rows.{up_from}
 use Rattle.lists.proofs.Rows.{listed}
 use Rattle.bptc.specs.declared.Rgb.{Rgb}
 use Rattle.bptc.specs.Mode.{Mode, IsMode, mode_numbered}
-use Rattle.bptc.specs.Colour.{black, Below}
-use Rattle.bptc.specs.Shown.{Stored}
-use Rattle.bptc.specs.Pixels.{pixel_word, pixel_of}
+use Rattle.bptc.specs.Internal.Colour.{black, Below}
+use Rattle.bptc.specs.Internal.Shown.{Stored}
+use Rattle.bptc.specs.Internal.Pixels.{pixel_word, pixel_of}
+use Rattle.bptc.proofs.Modes.{is_mode}
+use Rattle.bptc.proofs.Colours.{without-length}
 use Rattle.bptc.proofs.ColourBounds.{word-pixel}
 use Rattle.bptc_block.specs.declared.Candidate.{Candidate}
-use Rattle.bptc_block.specs.Fields.{word_candidate}
-use Rattle.bptc_block.proofs.Modes.{lawful_of, numbered}
-use Rattle.bptc_block.proofs.Refusals.{Good}
+use Rattle.bptc_block.specs.Internal.Words.{word_candidate}
+use Rattle.bptc_block.proofs.Modes.{lawful_of}
+use Rattle.bptc_block.specs.RgbaCandidate.{rgba_candidate}
+use Rattle.bptc_block.proofs.Stored.{stored_rgb}
+use Rattle.bptc_block.specs.Refusal.{check_candidate}
+use Rattle.bptc_block.proofs.Finishing.{Good}
+use Rattle.bptc_block.proofs.Refusals.{good}
 
 -- a channel is a byte
 pub channel-byte : (m : Mode) → IsMode m → 2 ^ m.channel_bits ≤ 256
@@ -41,7 +47,12 @@ module _ (m : Mode) (known : IsMode m) (ends : List Rgb) (four : length ends ≡
       ∙ rw (again 0 (omega arith), again 1 (omega arith), again 2 (omega arith), again 3 (omega arith)) es
 
 -- a candidate that the checks accept is the one that its numbers stand for
-pub candidate_again : (c : Candidate) → Good c → length c.ends ≡ 4 → word_candidate (record { mode = c.mode; partition = c.partition; ends = map pixel_word c.ends; p = c.p }) ≡ c
+pub candidate_again : (c : Candidate) → Good (rgba_candidate c) → length c.ends ≡ 4 → word_candidate (record { mode = c.mode; partition = c.partition; ends = map pixel_word c.ends; p = c.p }) ≡ c
 candidate_again c fit four =
     ap (λ (es : List Rgb). record { mode = c.mode; partition = c.partition; ends = es; p = c.p })
-    (words-again (mode_numbered c.mode) (numbered c.mode) c.ends four (λ k h. fit.stored k (omega arith)))
+    (words-again (mode_numbered c.mode) (is_mode c.mode) c.ends four (stored_rgb (mode_numbered c.mode) (is_mode c.mode) c.ends fit.stored))
+
+-- as its checks say
+pub accepted_again : (c : Candidate) → length c.ends ≡ 4 → check_candidate c 0 ≡ 0 →
+    word_candidate (record { mode = c.mode; partition = c.partition; ends = map pixel_word c.ends; p = c.p }) ≡ c
+accepted_again c four e = candidate_again c (good (rgba_candidate c) 0 (without-length c.ends ∙ four) e).0 four

@@ -4,7 +4,6 @@ use Rattle.std.specs.Prelude.{ℕ, List, Result, Ok, Err, replicate}
 use Rattle.refusals.specs.declared.Refusal.{Refusal}
 use Rattle.refusals.specs.Numbers.{number_of}
 use Rattle.bptc.specs.declared.Rgb.{Rgb}
-use Rattle.bptc.specs.Colour.{black}
 use Rattle.bptc_block.specs.declared.Fields.{Fields}
 use Rattle.bptc_block.specs.declared.Reading.{Reading}
 
@@ -34,7 +33,7 @@ reading_of mode f =
 
 -- a refusal, with all else zero
 abbrev pub unread : ℕ → BlockRead
-unread k = record { refusal = k; mode = 0; partition = 0; ends = replicate 4 black; p = 0; indices = replicate 16 0 }
+unread k = record { refusal = k; mode = 0; partition = 0; ends = replicate 4 (record { r = 0; g = 0; b = 0 }); p = 0; indices = replicate 16 0 }
 
 -- an answer of `finish`
 abbrev pub finished : Result ℕ Refusal → Finished

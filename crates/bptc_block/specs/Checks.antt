@@ -1,9 +1,8 @@
 -- The list of refusals in plain numbers.
-use Rattle.std.specs.Prelude.{ℕ, ◌%◌, ◌≤◌, ◌<◌, ◌≡◌, ◌⊎◌, List, get_or, length}
-use Rattle.bptc.specs.Colour.{black, Below}
-use Rattle.bptc_block.specs.declared.PBits.{PBits}
-use Rattle.bptc_block.specs.declared.PBits.TheVariants.{Free, Fixed}
+use Rattle.std.specs.Prelude.{ℕ, ◌%◌, ◌<◌, ◌≡◌, ◌⊎◌, List, get_or, length}
+use Rattle.bptc.specs.Colour.{clear, channel, without_alpha}
 use Rattle.bptc_block.specs.declared.Candidate.{Candidate}
+use Rattle.bptc_block.specs.Limits.{Limits, limits, limits_for, BitsWithin}
 
 -- no check is left
 abbrev pub NotDeclined : ℕ → Type 0
@@ -14,15 +13,6 @@ pub data Check (number : ℕ) (Passes : Type 0) (Later : ℕ → Type 0) (n : �
   passes : Passes → Later n → Check number Passes Later n
   declines : (Passes → ⊥) → n ≡ number → Check number Passes Later n
 
--- a statement about a limit, which is one number in mode 1 and another in mode 3
-abbrev pub InMode : ℕ → (ℕ → Type 0) → ℕ → ℕ → Type 0
-InMode mode P first third = (mode ≡ 1 → P first) × (mode ≡ 3 → P third)
-
--- p-bits that are free, or fixed below a limit
-abbrev pub BitsWithin : ℕ → PBits → Type 0
-BitsWithin bits Free = Unit {0}
-BitsWithin bits (Fixed p) = p < bits
-
 -- 1: the pixel part is 48 bytes long
 abbrev pub PixelsChecked : List ℕ → (ℕ → Type 0) → ℕ → Type 0
 PixelsChecked px Later = Check 1 (length px ≡ 48) Later
@@ -31,18 +21,18 @@ PixelsChecked px Later = Check 1 (length px ≡ 48) Later
 abbrev pub BlockChecked : List ℕ → (ℕ → Type 0) → ℕ → Type 0
 BlockChecked block Later = Check 2 (length block ≡ 16) Later
 
--- 3 to 6: the mode is 1 or 3, the partition is at most 63, every channel is at most 63 in mode 1 and 127 in mode 3,
--- fixed p-bits are at most 3 in mode 1 and 15 in mode 3
+-- 3 to 6: the mode is 1 or 3, and partition, channels and fixed p-bits are within its row of the table
 abbrev pub CandidateChecked : Candidate → (ℕ → Type 0) → ℕ → Type 0
 CandidateChecked c Later =
+    let row : Limits = limits_for c.mode limits in
     Check 3 ((c.mode ≡ 1) ⊎ (c.mode ≡ 3))
-    (Check 4 (c.partition ≤ 63)
-    (Check 5 (InMode c.mode (λ (top : ℕ). (k : ℕ) → k < length c.ends → Below top (get_or c.ends k black)) 64 128)
-    (Check 6 (InMode c.mode (λ (top : ℕ). BitsWithin top c.p) 4 16) Later)))
+    (Check 4 (c.partition < row.partitions)
+    (Check 5 ((k : ℕ) → k < row.ends → (j : ℕ) → j < row.channels → channel j (get_or (without_alpha c.ends) k clear) < row.channel)
+    (Check 6 (BitsWithin row.bits c.p) Later)))
 
--- 7: every index is at most 7 in mode 1 and 3 in mode 3
+-- 7: every index is within its row
 abbrev pub IndicesChecked : ℕ → List ℕ → (ℕ → Type 0) → ℕ → Type 0
-IndicesChecked mode is Later = Check 7 (InMode mode (λ (top : ℕ). (i : ℕ) → i < length is → get_or is i 0 < top) 8 4) Later
+IndicesChecked mode is Later = Check 7 ((i : ℕ) → i < length is → get_or is i 0 < (limits_for mode limits).index) Later
 
 -- 8 and 9: byte 0 of the block to be read is not zero, and its lowest bits are 10, which is mode 1, or 1000, which is mode 3
 abbrev pub ReadableChecked : List ℕ → (ℕ → Type 0) → ℕ → Type 0

@@ -1,58 +1,44 @@
--- Exchanging a subset's endpoints, so that its anchor's index has its top bit 0.
-use Rattle.std.specs.Prelude.{ℕ, ◌+◌, ◌-◌, ◌*◌, ◌/◌, ◌%◌, ◌^◌, Bool, List, [], ◌∷◌, map, leb, eqb, get_or}
-use Rattle.lists.specs.Tests.{pick}
-use Rattle.lists.specs.Rows.{up_from, sum}
-use Rattle.lists.specs.Digits.{bit}
-use Rattle.bptc.specs.declared.Rgb.{Rgb}
-use Rattle.bptc.specs.Mode.{Mode, largest}
-use Rattle.bptc.specs.Partition.{subset_of, anchor_of}
-use Rattle.bptc.specs.Colour.{black}
-use Rattle.bptc_block.specs.declared.Fields.{Fields}
-
--- the place that endpoint k has when subset s is exchanged
-abbrev pub exchanged : ℕ → ℕ → ℕ
-exchanged s k = pick (eqb (k / 2) s) (2 * s + (1 - k % 2)) k
-
--- the p-bits when subset s is exchanged: in mode 1 its one bit stays, in mode 3 its two change places
-unfoldable pub exchanged_bits : Mode → ℕ → ℕ → ℕ
-exchanged_bits m s p = pick (eqb m.p_bits 2) p (sum (map (λ (k : ℕ). bit p (exchanged s k) * 2 ^ k) (up_from 0 4)))
-
--- the p-bits when each subset is exchanged or not
-abbrev pub exchanged_both : Mode → Bool → Bool → ℕ → ℕ
-exchanged_both m t u p =
-    let once : ℕ = pick t (exchanged_bits m 0 p) p in
-    pick u (exchanged_bits m 1 once) once
-
--- subset s exchanged: its endpoints and their p-bits change places, and each of its indices is taken from the largest
-unfoldable pub flipped : Mode → ℕ → Fields → Fields
-flipped m s f =
-    record {
-      partition = f.partition;
-      ends = map (λ (k : ℕ). get_or f.ends (exchanged s k) black) (up_from 0 4);
-      p = exchanged_bits m s f.p;
-      indices =
-          map (λ (i : ℕ). pick (eqb (subset_of f.partition i) s) (largest m - get_or f.indices i 0) (get_or f.indices i 0))
-          (up_from 0 16);
-    }
-
--- the endpoints of both subsets, each exchanged or not
-abbrev pub swapped_ends : List Rgb → Bool → Bool → List Rgb
-swapped_ends ends t u =
-    let e : ℕ → Rgb = λ k. get_or ends k black in
-    pick t (e 1) (e 0) ∷ (pick t (e 0) (e 1) ∷ (pick u (e 3) (e 2) ∷ (pick u (e 2) (e 3) ∷ [])))
-
--- the two p-bits of a subset of mode 3, exchanged or not
-abbrev pub turned_bits : Bool → ℕ → ℕ
-turned_bits t p = pick t (p % 2 * 2 + p / 2) p
+-- A subset is swapped exactly if the index of its anchor has its top bit set: its endpoints change places, with p-bits of their own, and
+-- each of its indices is taken from the largest, so that the anchor's top bit is 0 and need not be stored.
+use Rattle.std.specs.Prelude.{ℕ, ◌+◌, ◌-◌, ◌*◌, ◌/◌, ◌%◌, ◌^◌, Bool, map, leb, eqb, get_or, replicate}
+use Rattle.lists.specs.Tests.{pick, and}
+use Rattle.lists.specs.Rows.{up_from, written}
+use Rattle.bptc_block.specs.Fields.{BlockFields, places}
+use Rattle.bptc.specs.Mode.{Mode, endpoints, largest}
+use Rattle.bptc.specs.Partition.{subset_in, anchor_in}
+use Rattle.bptc.specs.Colour.{clear, stored}
+use Rattle.bptc.specs.Shown.{own, joined_own}
 
 -- an index has its top bit set
 abbrev pub top_set : Mode → ℕ → Bool
 top_set m i = leb (2 ^ (m.index_bits - 1)) i
 
--- ensure_msb_zero: subset s is exchanged where the index of its anchor has its top bit set
-unfoldable pub anchored : Mode → ℕ → ℕ → Fields → Fields
-anchored m s anchor f = pick (top_set m (get_or f.indices anchor 0)) (flipped m s f) f
+-- whether subset s is swapped: the index of its anchor has its top bit set
+unfoldable pub swaps : Mode → BlockFields → ℕ → Bool
+swaps m f s = top_set m (get_or f.indices (anchor_in m f.partition s) 0)
 
--- compress_p2: pixel 0 first, and then the anchor of subset 1
-unfoldable pub compressed : Mode → Fields → Fields
-compressed m f = anchored m 1 (anchor_of f.partition) (anchored m 0 0 f)
+-- the own p-bits of a subset, swapped or not: two change places, and one stays
+unfoldable pub swapped_own : Mode → Bool → ℕ → ℕ
+swapped_own m t q = pick (and t (eqb m.own_bits 2)) (q % 2 * 2 + q / 2) q
+
+-- the endpoint that comes to place k
+abbrev pub swapped_place : Bool → ℕ → ℕ
+swapped_place t k = pick t (2 * (k / 2) + (1 - k % 2)) k
+
+-- an index, swapped or not
+abbrev pub swapped_index : Mode → Bool → ℕ → ℕ
+swapped_index m t x = pick t (largest m - x) x
+
+-- the fields with some subsets swapped, and with what the mode does not look at made 0
+unfoldable pub swapped_by : Mode → (ℕ → Bool) → BlockFields → BlockFields
+swapped_by m t f =
+    record {
+      partition = f.partition;
+      ends = written (λ (k : ℕ). stored m (get_or f.ends (swapped_place (t (k / 2)) k) clear)) (endpoints m) (replicate places clear);
+      p = joined_own m (λ (s : ℕ). swapped_own m (t s) (own m f.p s));
+      indices = map (λ (i : ℕ). swapped_index m (t (subset_in m f.partition i)) (get_or f.indices i 0)) (up_from 0 16);
+    }
+
+-- the fields as a block holds them
+unfoldable pub compressed : Mode → BlockFields → BlockFields
+compressed m f = swapped_by m (swaps m f) f

@@ -2,10 +2,11 @@ pub mod Fields
 pub mod Packed
 pub mod Chapter
 pub mod Exchange
+pub mod RgbaCandidate
 pub mod Compressed
+pub mod Limits
 pub mod Refusal
 pub mod Checks
-pub mod Ranges
 pub mod Answers
 pub mod Worked
 pub mod PackCall
@@ -16,3 +17,4 @@ pub mod Finish
 pub mod FinishCall
 pub mod Allowed
 pub mod Promise
+pub mod Internal

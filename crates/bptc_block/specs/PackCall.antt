@@ -5,6 +5,7 @@ use Rattle.bptc.specs.Mode.{Mode, mode_numbered}
 use Rattle.bptc_block.specs.declared.PBits.TheVariants.{Fixed}
 use Rattle.bptc_block.specs.declared.Candidate.{Candidate}
 use Rattle.bptc_block.specs.declared.Fields.{Fields}
+use Rattle.bptc_block.specs.Fields.{block_fields}
 use Rattle.bptc_block.specs.Packed.{packed}
 use Rattle.bptc_block.specs.Exchange.{compressed}
 use Rattle.bptc_block.specs.Refusal.{check_block, check_candidate, check_indices}
@@ -21,4 +22,4 @@ pack_of mode f block = check_block (length block) (check_candidate (fixed_at mod
 unfoldable pub pack_into : ℕ → Fields → List ℕ → List ℕ
 pack_into mode f block =
     let m : Mode = mode_numbered mode in
-    pick (eqb (pack_of mode f block) 0) (packed m (compressed m f)) block
+    pick (eqb (pack_of mode f block) 0) (packed m (compressed m (block_fields f))) block

@@ -2,6 +2,7 @@
 use Rattle.std.specs.Prelude.{ℕ, ◌≤◌, ◌≡◌, List, length}
 use Rattle.lists.specs.Bytes.{Bytes}
 use Rattle.bptc_block.specs.declared.Candidate.{Candidate}
+use Rattle.bptc_block.specs.RgbaCandidate.{rgba_candidate}
 use Rattle.bptc_block.specs.Chapter.{distance}
 use Rattle.bptc_block.specs.Allowed.{Allowed}
 use Rattle.bptc_block.specs.MeasureCall.{measure_of}
@@ -11,9 +12,9 @@ pub record FinishPromise (px : List ℕ) (c : Candidate) (block : List ℕ) (err
   -- the error is the distance between the pixels and the block as the chapter reads it
   pub exact : error ≡ distance px block
   -- no block that the candidate could have become lies closer
-  pub closest : (other : List ℕ) → Allowed c other → error ≤ distance px other
+  pub closest : (other : List ℕ) → Allowed (rgba_candidate c) other → error ≤ distance px other
   -- and the block is one of these
-  pub allowed : Allowed c block
+  pub allowed : Allowed (rgba_candidate c) block
   -- 16 × 195,075, where the pixels are bytes
   pub bound : Bytes px → error ≤ 3121200
 

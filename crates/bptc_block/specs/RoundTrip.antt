@@ -3,8 +3,9 @@ use Rattle.std.specs.Prelude.{ℕ, ◌+◌, ◌-◌, ◌*◌, ◌%◌, ◌^◌, 
 use Rattle.lists.specs.Rows.{up_from, sum}
 use Rattle.lists.specs.Bytes.{Bytes}
 use Rattle.bptc.specs.Mode.{mode_numbered}
-use Rattle.bptc.specs.Colour.{pixel_in, bytes_of}
+use Rattle.bptc.specs.Colour.{pixel_in, rgb_of, pixel_bytes}
 use Rattle.bptc_block.specs.declared.Fields.{Fields}
+use Rattle.bptc_block.specs.Fields.{BlockFields, block_fields, rgb_fields}
 use Rattle.bptc_block.specs.Packed.{fields_of}
 use Rattle.bptc_block.specs.Chapter.{colour_at, colours}
 use Rattle.bptc_block.specs.Exchange.{compressed}
@@ -12,7 +13,7 @@ use Rattle.bptc_block.specs.Answers.{reading_of}
 use Rattle.bptc_block.specs.PackCall.{pack_of, pack_into}
 use Rattle.bptc_block.specs.ReadCall.{read_refusal, fields_read, read_of, read_into}
 use Rattle.bptc_block.specs.MeasureCall.{measure_of}
-use Rattle.bptc_block.specs.Ranges.{InRange}
+use Rattle.bptc_block.specs.Limits.{InRange}
 
 -- sixteen bytes that say mode n, 1 or 3: the n lowest bits of byte 0 are 0, and the next is 1
 pub record Block (n : ℕ) (block : List ℕ) : Type 0 where
@@ -25,11 +26,11 @@ pub record Block (n : ℕ) (block : List ℕ) : Type 0 where
 pub record ReadWhole (n : ℕ) (block px part : List ℕ) : Type 0 where
   -- its mode, and the chapter's fields
   pub fields :
-      let f : Fields = fields_of (mode_numbered n) block in
-      read_of block px ≡ record { refusal = 0; mode = n; partition = f.partition; ends = f.ends; p = f.p; indices = f.indices }
+      let f : BlockFields = fields_of (mode_numbered n) block in
+      read_of block px ≡ record { refusal = 0; mode = n; partition = f.partition; ends = map rgb_of f.ends; p = f.p; indices = f.indices }
   -- 48 bytes, red, green and blue of the colour that the chapter gives each pixel
   pub long : length (read_into block px) ≡ 48
-  pub colours : (i : ℕ) → i < 16 → pixel_in (read_into block px) i ≡ colour_at (mode_numbered n) (fields_of (mode_numbered n) block) i
+  pub colours : (i : ℕ) → i < 16 → pixel_in 3 (read_into block px) i ≡ colour_at (mode_numbered n) (fields_of (mode_numbered n) block) i
   -- packing the fields read, with the same mode, gives the same sixteen bytes
   pub accepted : pack_of n (fields_read (read_of block px)) part ≡ 0
   pub again : pack_into n (fields_read (read_of block px)) part ≡ block
@@ -44,16 +45,16 @@ PackedAsRead =
 abbrev pub ReadAsPacked : Type 0
 ReadAsPacked =
     (mode : ℕ) (f : Fields) (part px : List ℕ) → InRange mode f → length part ≡ 16 → length px ≡ 48 →
-    (read_of (pack_into mode f part) px ≡ reading_of mode (compressed (mode_numbered mode) f))
-    × (read_into (pack_into mode f part) px ≡ bytes_of (colours (mode_numbered mode) f))
+    (read_of (pack_into mode f part) px ≡ reading_of mode (rgb_fields (compressed (mode_numbered mode) (block_fields f))))
+    × (read_into (pack_into mode f part) px ≡ pixel_bytes 3 (colours (mode_numbered mode) (block_fields f)))
 
 -- the square of the difference of two bytes: one of the two terms is 0
 abbrev pub squared : ℕ → ℕ → ℕ
 squared a b = (a - b) * (a - b) + (b - a) * (b - a)
 
 -- the squared differences in red, green and blue between pixel i of 48 bytes and that of others
-abbrev pub apart_in : List ℕ → List ℕ → ℕ → ℕ
-apart_in px other i =
+abbrev pub pixels_apart : List ℕ → List ℕ → ℕ → ℕ
+pixels_apart px other i =
     squared (get_or px (i * 3) 0) (get_or other (i * 3) 0)
     + squared (get_or px (i * 3 + 1) 0) (get_or other (i * 3 + 1) 0)
     + squared (get_or px (i * 3 + 2) 0) (get_or other (i * 3 + 2) 0)
@@ -62,11 +63,11 @@ apart_in px other i =
 abbrev pub MeasuredSum : Type 0
 MeasuredSum =
     (n : ℕ) (block px into : List ℕ) → Block n block → length px ≡ 48 → length into ≡ 48 →
-    measure_of block px ≡ record { refusal = 0; error = sum (map (apart_in px (read_into block into)) (up_from 0 16)) }
+    measure_of block px ≡ record { refusal = 0; error = sum (map (pixels_apart px (read_into block into)) (up_from 0 16)) }
 
 -- every pixel has the colour that the chapter gives the block there
 abbrev pub SameColours : ℕ → List ℕ → List ℕ → Type 0
-SameColours n block px = (i : ℕ) → i < 16 → pixel_in px i ≡ colour_at (mode_numbered n) (fields_of (mode_numbered n) block) i
+SameColours n block px = (i : ℕ) → i < 16 → pixel_in 3 px i ≡ colour_at (mode_numbered n) (fields_of (mode_numbered n) block) i
 
 -- the error measured is 0 exactly when every pixel equals the block's colour there
 abbrev pub MeasuredZero : Type 0

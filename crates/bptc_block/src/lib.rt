@@ -17,7 +17,7 @@ pub struct Fields {
 // The same fields in fewer numbers: an endpoint is one, red lowest, and so are the sixteen indices. No type serves both, since definitions
 // name the record of each.
 #[derive(Clone, Copy)]
-pub struct Words {
+pub struct FieldWords {
     pub partition: u8,
     pub ends: [u32; 4],
     pub p: u8,
@@ -40,7 +40,7 @@ pub struct Candidate {
     pub p: PBits,
 }
 
-// The same proposal in fewer numbers: an endpoint is one, red lowest. As with `Words`, no type serves both.
+// The same proposal in fewer numbers: an endpoint is one, red lowest. As with `FieldWords`, no type serves both.
 #[derive(Clone, Copy)]
 pub struct CandidateWords {
     pub mode: u8,

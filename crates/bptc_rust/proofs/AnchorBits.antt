@@ -1,20 +1,22 @@
--- The top bits of the two anchors' indexes taken out: what stays are fields of the widths that a block has.
+-- The anchors' top bits taken out from the last pixel down: what stays are fields of the widths that a block has.
 use Prim.Native.Nat.{ℕ, zero, suc, ◌+◌, ◌-◌, ◌*◌, ◌^◌, ◌≤◌, ◌<◌}
-use native.Mathlib.Nat.{add_comm, add-zero, zero-add, add_assoc, le_refl, mul-le-mul_right, lt_of_lt_of_le, lt_of_le_of_lt}
+use native.Mathlib.Nat.{add_comm, add-zero, zero-add, add_assoc, le_refl, lt_of_le_of_lt}
 use native.Mathlib.Omega.{arith}
 use mathlib.Core.Path.{◌≡◌, refl, ap, ap₂, ◌∙◌, subst}
+use mathlib.Core.Bool.{Bool, true, false}
 use mathlib.Core.List.{List, [], ◌∷◌, map}
 use lib.Dec.{eqb}
-use lib.Pow.{pow_mono}
 use lib.ListN.{length, get_or, replicate}
 use borrow.Author.Tests.{eq-eqb, ne_eqb}
-use Rattle.lists.specs.Tests.{pick}
+use Rattle.lists.specs.Tests.{pick, or}
 use Rattle.lists.specs.Rows.{up_from, sum}
+use Rattle.lists.proofs.Tables.{any}
+use Rattle.lists.proofs.Rows.{each_same}
 use Rattle.lists.specs.Bits.{join}
-use Rattle.lists.proofs.Bits.{sum-replicate}
 use Rattle.bptc_rust.specs.CompressedIndexList.{compress_single_index}
-use Rattle.bptc_rust.proofs.Digits.{digits, Small, digits_small}
+use Rattle.lists.proofs.Bits.{sum-replicate}
 use Rattle.bptc_rust.proofs.Without.{without, single_index, without_first, without_later, without_le}
+use Rattle.bptc_rust.specs.Internal.Indexes.{bits_out}
 
 join-same : (W U : ℕ → ℕ) (k n : ℕ) (vs : List ℕ) → ((i : ℕ) → n ≤ i → W i ≡ U i) → join (map W (up_from n k)) vs ≡ join (map U (up_from n k)) vs
 unfolding join
@@ -41,51 +43,68 @@ join_without W U (suc k) n (suc a) (v ∷ vs) e l one same below at =
     rw (q, add_assoc, without_later (W n) v (join (map W (up_from (suc n) k)) vs) (sum (map W (up_from (suc n) a)) + U (suc n + a)) (rw add-zero at (below 0 (omega arith))), rest)
     (ap (λ (w : ℕ). join (map U (up_from (suc n) k)) vs * 2 ^ w + v) (same n (λ r. omega arith)))
 
-every : (I k n : ℕ) → map (λ (i : ℕ). I) (up_from n k) ≡ replicate k I
+-- a list of one width
+pub every : (I k n : ℕ) → map (λ (i : ℕ). I) (up_from n k) ≡ replicate k I
 every I zero n = refl
 every I (suc k) n = ap {B = List ℕ} (λ (ws : List ℕ). I ∷ ws) (every I k (suc n))
 
-module _ (I a : ℕ) (narrow : I ≤ 3) (some : 0 < I) (inside : a < 16) (away : 0 < a) (xs : List ℕ) (sixteen : length xs ≡ 16) (tiny : Small I xs)
-    (low₀ : get_or xs 0 0 < 2 ^ (I - 1)) (low₁ : get_or xs a 0 < 2 ^ (I - 1)) where
-  -- the widths without the anchor's bit
-  abbrev one_out : ℕ → ℕ
-  one_out i = pick (eqb i a) (I - 1) I
+-- places from a bound down, each with its value below half and its top bit within a word
+pub data Falling (I : ℕ) (xs : List ℕ) : ℕ → List ℕ → Type 0 where
+  none : {b : ℕ} → Falling I xs b []
+  next : {a b : ℕ} {ps : List ℕ} → a < b → I - 1 + a * I < 63 → get_or xs a 0 < 2 ^ (I - 1) → Falling I xs a ps → Falling I xs b (a ∷ ps)
 
-  -- and without that of pixel 0
-  abbrev two_out : ℕ → ℕ
-  two_out i = pick (eqb i 0) (I - 1) (one_out i)
+-- a bit less at the places of a list
+abbrev pub less : (ℕ → ℕ) → ℕ → List ℕ → ℕ → ℕ
+less W I ps i = pick (any (eqb i) ps) (I - 1) (W i)
 
-  out_at : one_out a ≡ I - 1
-  out_at = rw (eq-eqb a a refl)
+module _ (I : ℕ) (some : 0 < I) (xs : List ℕ) (sixteen : length xs ≡ 16) (tiny : (i : ℕ) → get_or xs i 0 < 2 ^ I) where
+  -- the number of fields of some widths
+  abbrev fields : (ℕ → ℕ) → ℕ
+  fields W = join (map W (up_from 0 16)) xs
 
-  whole : digits I xs < 2 ^ 64
-  whole = lt_of_lt_of_le (digits_small I xs tiny) (pow_mono {i = length xs * I} {j = 64} (rw sixteen (omega arith)))
+  module _ (W : ℕ → ℕ) (b a : ℕ) (bound : b ≤ 16) (full : (i : ℕ) → i < b → W i ≡ I) (room : fields W < 2 ^ 64)
+      (inside : a < b) (place : I - 1 + a * I < 63) (low : get_or xs a 0 < 2 ^ (I - 1)) where
+    -- the widths without this bit
+    abbrev U : ℕ → ℕ
+    U i = pick (eqb i a) (I - 1) (W i)
 
-  first_without : without (I - 1 + a * I) (digits I xs) ≡ join (map one_out (up_from 0 16)) xs
-  unfolding digits
-  first_without =
-      let place : I - 1 + a * I ≡ sum (map (λ (i : ℕ). I) (up_from 0 a)) + one_out (0 + a) = rw (every I a 0, sum-replicate, zero-add a, out_at) (add_comm (I - 1) (a * I)) in
-      let all : digits I xs ≡ join (map (λ (i : ℕ). I) (up_from 0 16)) xs = rw (every I 16 0, sixteen) in
-      ap₂ without place all
-      ∙ join_without (λ (i : ℕ). I) one_out 16 0 a xs sixteen inside (rw (zero-add a, out_at) (omega arith))
-      (λ i ne. rw (ne_eqb i a (λ e. ne (rw zero-add e)))) (λ i h. tiny i) (rw (zero-add a, out_at) low₁)
+    out_at : U (0 + a) ≡ I - 1
+    out_at = rw (zero-add a, eq-eqb a a refl)
 
-  first_out : compress_single_index I (digits I xs) a ≡ join (map one_out (up_from 0 16)) xs
-  first_out =
-      let room : a * I ≤ 15 * I = mul-le-mul_right I (omega arith) in
-      single_index I (digits I xs) a whole (omega arith) ∙ first_without
+    bit-place : I - 1 + a * I ≡ sum (map W (up_from 0 a)) + U (0 + a)
+    bit-place =
+        let same : map W (up_from 0 a) ≡ replicate a I = each_same 0 W (λ (i : ℕ). I) a (λ i h. full i (omega arith)) ∙ every I a 0 in
+        rw (same, sum-replicate, out_at) (add_comm (I - 1) (a * I))
 
-  fits : join (map one_out (up_from 0 16)) xs < 2 ^ 64
-  fits = subst (λ (n : ℕ). n < 2 ^ 64) first_without (lt_of_le_of_lt (without_le (digits I xs) (I - 1 + a * I)) whole)
+    without_one : without (I - 1 + a * I) (fields W) ≡ fields U
+    without_one =
+        let at : W (0 + a) ≡ I = ap W (zero-add a) ∙ full a inside in
+        ap (λ (k : ℕ). without k (fields W)) bit-place
+        ∙ join_without W U 16 0 a xs sixteen (omega arith) (at ∙ rw out_at (omega arith))
+        (λ i ne. rw (ne_eqb i a (λ e. ne (rw zero-add e))))
+        (λ i h. let w : W (0 + i) ≡ I = ap W (zero-add i) ∙ full i (omega arith) in rw w (tiny i)) (rw out_at low)
 
-  second_out : compress_single_index I (join (map one_out (up_from 0 16)) xs) 0 ≡ join (map two_out (up_from 0 16)) xs
-  second_out =
-      let place : I - 1 + 0 * I ≡ 0 + (I - 1) = omega arith in
-      single_index I (join (map one_out (up_from 0 16)) xs) 0 fits (omega arith)
-      ∙ ap (λ (k : ℕ). without k (join (map one_out (up_from 0 16)) xs)) place
-      ∙ join_without one_out two_out 16 0 0 xs sixteen (omega arith) (rw (ne_eqb 0 a (λ e. omega arith)) (omega arith))
-      (λ i ne. rw (ne_eqb i 0 ne)) (λ i h. absurd (omega arith)) low₀
+    out_one : compress_single_index I (fields W) a ≡ fields U
+    out_one = single_index I (fields W) a room place ∙ without_one
 
-  -- the anchor's first, and then that of pixel 0
-  pub removed : compress_single_index I (compress_single_index I (digits I xs) a) 0 ≡ join (map two_out (up_from 0 16)) xs
-  removed = ap (λ (n : ℕ). compress_single_index I n 0) first_out ∙ second_out
+    out_room : fields U < 2 ^ 64
+    out_room = subst (λ (n : ℕ). n < 2 ^ 64) without_one (lt_of_le_of_lt (without_le (fields W) (I - 1 + a * I)) room)
+
+    out_full : (i : ℕ) → i < a → U i ≡ I
+    out_full i h = rw (ne_eqb i a (λ e. omega arith)) (full i (omega arith))
+
+  -- all of them
+  pub all_out : (W : ℕ → ℕ) (b : ℕ) (ps : List ℕ) → b ≤ 16 → ((i : ℕ) → i < b → W i ≡ I) → fields W < 2 ^ 64 → Falling I xs b ps →
+      bits_out I ps (fields W) ≡ fields (less W I ps)
+  unfolding bits_out
+  all_out W b [] bound full room none = refl
+  all_out W b (a ∷ ps) bound full room (next inside place low rest) =
+      ap (bits_out I ps) (out_one W b a bound full room inside place low)
+      ∙ all_out (λ (i : ℕ). pick (eqb i a) (I - 1) (W i)) a ps (omega arith) (out_full W b a bound full room inside place low) (out_room W b a bound full room inside place low) rest
+      ∙ ap (λ (ws : List ℕ). join ws xs) (each_same 0 _ _ 16 (λ i h. both (any (eqb i) ps) (eqb i a) (W i)))
+    where
+      both : (t u : Bool) (w : ℕ) → pick t (I - 1) (pick u (I - 1) w) ≡ pick (or u t) (I - 1) w
+      both true true w = refl
+      both true false w = refl
+      both false true w = refl
+      both false false w = refl

@@ -1,106 +1,122 @@
--- Compressed::mode1 and Compressed::mode3 give the block that `packed` makes of the compressed fields.
-use Prim.Native.Nat.{ℕ, ◌+◌, ◌-◌, ◌*◌, ◌^◌, ◌≤◌}
-use native.Mathlib.Nat.{mul-one}
+-- Compressed::mode1 and Compressed::mode3 give the block that `packed` makes of the compressed fields, by one proof.
+use Prim.Native.Nat.{ℕ, ◌-◌, ◌*◌}
 use native.Mathlib.Omega.{arith}
-use mathlib.Core.Path.{◌≡◌, refl, sym, ap, ◌∙◌}
-use mathlib.Core.Bool.{Bool, false}
+use mathlib.Core.Path.{◌≡◌, refl, sym, ap, ap₂, ◌∙◌}
+use mathlib.Core.Bool.{Bool, true, false}
 use mathlib.Core.List.{List, [], ◌∷◌, map}
-use lib.ListN.{length, replicate, length-map, length-replicate}
+use lib.Dec.{eqb}
+use lib.ListN.{length}
+use borrow.Author.Tests.{eqb-true, eqb-false}
 use Rattle.lists.specs.Tests.{pick}
-use Rattle.lists.specs.Rows.{up_from, sum}
-use Rattle.lists.specs.Bits.{Fits, none, more, join}
 use Rattle.lists.specs.Bytes.{bytes}
 use Rattle.lists.proofs.Bytes.{bytes-listed}
-use Rattle.lists.proofs.Bits.{fits_append, join_append, sum-replicate}
 use Rattle.bptc.specs.declared.Rgb.{Rgb}
-use Rattle.bptc.specs.Mode.{Mode, mode1, mode3}
+use Rattle.bptc.specs.Mode.{Mode, mode1, mode3, p_bits, IsMode}
+use Rattle.bptc.specs.Colour.{without_alpha}
+use Rattle.bptc.specs.Internal.Colour.{black}
+use Rattle.bptc.proofs.Colours.{without-length}
+use Rattle.bptc.proofs.Modes.{is_mode1, is_mode3}
 use Rattle.bptc_block.specs.declared.Fields.{Fields}
-use Rattle.bptc_block.specs.Fields.{Plain, WellFormed, index_width, front_widths, front_values, widths, values}
+use Rattle.bptc_block.specs.Fields.{BlockFields, block_fields, Plain, channel_values}
 use Rattle.bptc_block.specs.Packed.{packed}
-use Rattle.bptc_block.specs.Exchange.{anchored, compressed}
-use Rattle.bptc_block.proofs.Widths.{fits_front, join_front}
-use Rattle.bptc_block.proofs.Modes.{Lawful, lawful}
-use Rattle.bptc_block.proofs.Exchanging.{compressed-partition, compressed_formed}
-use Rattle.bptc_rust.specs.Words.{swap}
+use Rattle.bptc_block.specs.Exchange.{swaps, compressed}
+use Rattle.bptc_block.specs.Compressed.{Compressed}
+use Rattle.bptc_block.proofs.Modes.{Lawful, lawful_of}
 use Rattle.bptc_rust.specs.Colour.{as_u8}
-use Rattle.bptc_rust.specs.BitStream.{finish}
+use Rattle.bptc_rust.specs.Subset2Map.{PARTITION-SET-2}
+use Rattle.bptc_rust.specs.CompressedIndexList.{compress_p2}
+use Rattle.bptc_rust.specs.BitStream.{BitStream, new, write_mode, write_u64, write_endpoints_rgb, write_endpoints_p, write_indexes, finish}
 use Rattle.bptc_rust.specs.Compressed as Rust
-use Rattle.bptc_rust.proofs.Table.{map_same}
-use Rattle.bptc_rust.proofs.Digits.{digits}
-use Rattle.bptc_rust.proofs.Masks.{Masks, masks1, masks3}
-use Rattle.bptc_rust.proofs.Compressing.{swap₀, swap₁, index_number, compress_indexes, number_small}
-use Rattle.bptc_rust.proofs.Stream.{writes_join, tail_widths, tail_values, stream, block_writes}
-use Rattle.bptc_rust.proofs.Swaps.{p_number, bit_small, both_ends, once_bits, once_length, stays}
+use Rattle.bptc_rust.specs.Internal.Swaps.{swap_pairs}
+use Rattle.bptc_rust.proofs.Digits.{digits, one_shl}
+use Rattle.bptc_rust.proofs.Order.{Ordered, ordered_of}
+use Rattle.bptc_rust.proofs.Masks.{Double, double_of}
+use Rattle.bptc_rust.proofs.Compressing.{index_number}
+use Rattle.bptc_rust.proofs.Doubles.{swaps_two, compress_two}
+use Rattle.bptc_rust.proofs.Stream.{stream, block_writes}
+use Rattle.bptc_rust.proofs.Swaps.{p_number, bits_of, bits_listed, map_pairs, pairs_length, rgb_swapped, swapped-bits, kept-bits}
+use Rattle.bptc_rust.proofs.Written.{stream_block}
 
-bits_fit : (ps : List Bool) → Fits (replicate (length ps) 1) (map as_u8 ps)
-bits_fit [] = none
-bits_fit (b ∷ ps) = more (bit_small b) (bits_fit ps)
+-- p-bits after the swaps: two of a subset go with their endpoints, and one stays
+abbrev own_pairs : Mode → List Bool → List Bool → List Bool
+own_pairs m ts ps = pick (eqb m.own_bits 2) (swap_pairs false ts 0 ps) ps
 
-tail_join : (ps : List Bool) (n w : ℕ) → join (tail_widths ps w) (tail_values ps n) ≡ n * 2 ^ length ps + p_number ps
-unfolding digits join
-tail_join ps n w =
-    let one : join (w ∷ []) (n ∷ []) ≡ n = omega arith in
-    rw (join_append (replicate (length ps) 1) (map as_u8 ps) (w ∷ []) (n ∷ []) (rw (length-map, length-replicate)), sum-replicate, mul-one, one, length-map)
+-- the steps of both functions, over a mode of two subsets in three channels
+abbrev steps : Mode → ℕ → ℕ → List Rgb → List Bool → ℕ → Compressed
+steps m error part rgb ps n =
+    let (indexes, swap0, swap1) = compress_p2 m.index_bits n (PARTITION-SET-2 part) in
+    let ts : List Bool = swap0 ∷ (swap1 ∷ []) in
+    let s1 : BitStream = write_u64 (write_mode new m.number) part m.partition_bits in
+    let s2 : BitStream = write_endpoints_rgb m.channel_bits s1 (swap_pairs black ts 0 rgb) in
+    record { block = finish (write_indexes (write_endpoints_p s2 (own_pairs m ts ps)) indexes); error = error }
 
--- the bytes of the stream that writes the exchanged fields
-module _ (m : Mode) (law : Lawful m) (known : Masks m) (f : Fields) (plain : Plain m f) (ps : List Bool) (bits : length ps ≡ m.p_bits) (same : (compressed m f).p ≡ p_number ps) where
-  -- the fields after any exchange
-  abbrev after : Fields
-  after = compressed m f
+module _ (m : Mode) (known : IsMode m) (f : Fields) (plain : Plain m (block_fields f)) (ps : List Bool) (size : length ps ≡ p_bits m) (bits : f.p ≡ p_number ps) where
+  -- the fields as the chapter has them
+  abbrev g : BlockFields
+  g = block_fields f
 
-  -- the bits of the indexes
-  abbrev w : ℕ
-  w = 16 * m.index_bits - 2
+  law : Lawful m
+  law = lawful_of m known
 
-  -- their number
+  order : Ordered m
+  order = ordered_of m known
+
+  double : Double m
+  double = double_of m known
+
+  -- the swaps
+  abbrev ts : List Bool
+  ts = swaps m g 0 ∷ (swaps m g 1 ∷ [])
+
+  -- the number of the indexes
   abbrev n : ℕ
-  n = index_number m law known f plain
+  n = index_number m law order g plain
 
-  data_packed : sum (front_widths m.number m.channel_bits (tail_widths ps w)) ≤ 128 →
-      finish (stream m f.partition after.ends ps n w) ≡ packed m after
-  unfolding packed widths values join
-  data_packed total =
-      let formed : WellFormed m after = compressed_formed m law f plain in
-      let part : after.partition ≡ f.partition = compressed-partition m law f plain in
-      let fit : Fits (tail_widths ps w) (tail_values ps n) = fits_append (bits_fit ps) (more (number_small m law known f plain) none) in
-      let tail : join (tail_widths ps w) (tail_values ps n) ≡ n * 2 ^ m.p_bits + after.p = rw (tail_join ps n w, bits, same) in
-      bytes-listed 16 (stream m f.partition after.ends ps n w).«data»
-      ∙ rw (block_writes m f.partition after.ends ps n w formed.four, writes_join (fits_front m.number m.channel_bits f.partition after.ends formed.four plain.partition formed.channels fit) total)
-      (ap (bytes 16)
-      (join_front m.number m.channel_bits f.partition after.ends formed.four (tail_widths ps w) (tail_values ps n) (m.p_bits ∷ map (index_width m f.partition) (up_from 0 16)) (after.p ∷ after.indices) tail
-      ∙ ap (λ (q : ℕ). join (front_widths m.number m.channel_bits (m.p_bits ∷ map (index_width m q) (up_from 0 16))) (front_values m.number q after.ends (after.p ∷ after.indices))) (sym part)))
+  four : length f.ends ≡ 4
+  four = sym (without-length f.ends) ∙ plain.room
 
-module _ (f : Fields) (plain : Plain mode1 f) (error : ℕ) (p₀ p₁ : Bool) (bits : f.p ≡ p_number (p₀ ∷ (p₁ ∷ []))) where
+  channels_same : channel_values m (without_alpha (swap_pairs black ts 0 f.ends)) ≡ channel_values m (compressed m g).ends
+  channels_same = ap (λ (l : List Bool). channel_values m (without_alpha (swap_pairs black l 0 f.ends))) (sym (swaps_two m double g)) ∙ rgb_swapped m law f plain
+
+  own_length : (b : Bool) → length (pick b (swap_pairs false ts 0 ps) ps) ≡ p_bits m
+  own_length true = pairs_length false ts 0 ps ∙ size
+  own_length false = size
+
+  listed : map as_u8 ps ≡ bits_of m f.p
+  listed = sym (ap (bits_of m) bits ∙ bits_listed m ps size)
+
+  own_same : (b : Bool) → eqb m.own_bits 2 ≡ b → map as_u8 (pick b (swap_pairs false ts 0 ps) ps) ≡ bits_of m (compressed m g).p
+  own_same true e =
+      map_pairs as_u8 false ts 0 ps
+      ∙ ap₂ (λ (l : List Bool) (xs : List ℕ). swap_pairs 0 l 0 xs) (sym (swaps_two m double g)) listed
+      ∙ swapped-bits m law (eqb-true m.own_bits 2 e) g
+  own_same false e = listed ∙ ap (bits_of m) (sym (kept-bits m (eqb-false m.own_bits 2 e) g plain))
+
+  written : finish (stream m f.partition (swap_pairs black ts 0 f.ends) (own_pairs m ts ps) n (16 * m.index_bits - 2)) ≡ packed m (compressed m g)
+  written =
+      let es : List Rgb = swap_pairs black ts 0 f.ends in
+      let qs : List Bool = own_pairs m ts ps in
+      bytes-listed 16 (stream m f.partition es qs n (16 * m.index_bits - 2)).«data»
+      ∙ ap (λ (k : ℕ). bytes 16 (stream m f.partition es qs n (16 * m.index_bits - k)).«data») (sym double.two)
+      ∙ ap (λ (s : BitStream). bytes 16 s.«data»)
+      (block_writes m known f.partition es qs n (16 * m.index_bits - m.subsets) (pairs_length black ts 0 f.ends ∙ four) (own_length (eqb m.own_bits 2)))
+      ∙ stream_block m law order g plain _ _ channels_same (own_same (eqb m.own_bits 2) refl)
+
+  -- they make the packed block
+  pub steps_packed : (error : ℕ) → steps m error f.partition f.ends ps (digits m.index_bits f.indices) ≡ record { block = packed m (compressed m g); error = error }
+  steps_packed error =
+      rw (compress_two m law order double g plain, one_shl 64 m.number (omega (arith, law.low)))
+      (ap (λ (b : List ℕ). record { block = b; error = error }) written)
+
+module _ (f : Fields) (error : ℕ) (ps : List Bool) (bits : f.p ≡ p_number ps) where
   -- mode 1
-  pub pack1 : Rust.mode1 error f.partition f.ends (p₀ ∷ (p₁ ∷ [])) (digits 3 f.indices) ≡ record { block = packed mode1 (compressed mode1 f); error = error }
-  unfolding Rust.mode1 compressed anchored
-  pack1 =
-      let law : Lawful mode1 = lawful 1 in
-      let t : Bool = swap₀ mode1 law masks1 f plain in
-      let u : Bool = swap₁ mode1 law masks1 f plain in
-      let ps : List Bool = p₀ ∷ (p₁ ∷ []) in
-      let n : ℕ = index_number mode1 law masks1 f plain in
-      let same : (compressed mode1 f).p ≡ p_number ps = stays 1 (anchored mode1 0 0 f) u ∙ stays 0 f t ∙ bits in
-      rw (map_same f.partition plain.partition, compress_indexes mode1 law masks1 f plain)
-      (ap (λ (b : List ℕ). record { block = b; error = error })
-      (ap (λ (es : List Rgb). finish (stream mode1 f.partition es ps n 46)) (both_ends mode1 f t u plain.four)
-      ∙ data_packed mode1 law masks1 f plain ps refl same (omega arith)))
+  pub pack1 : Plain mode1 (block_fields f) → length ps ≡ 2 →
+      Rust.mode1 error f.partition f.ends ps (digits 3 f.indices) ≡ record { block = packed mode1 (compressed mode1 (block_fields f)); error = error }
+  unfolding Rust.mode1 swap_pairs
+  pack1 plain size = steps_packed mode1 is_mode1 f plain ps size bits error
 
-module _ (f : Fields) (plain : Plain mode3 f) (error : ℕ) (ps : List Bool) (four : length ps ≡ 4) (bits : f.p ≡ p_number ps) where
   -- mode 3
-  pub pack3 : Rust.mode3 error f.partition f.ends ps (digits 2 f.indices) ≡ record { block = packed mode3 (compressed mode3 f); error = error }
-  unfolding Rust.mode3 compressed anchored
-  pack3 =
-      let law : Lawful mode3 = lawful 3 in
-      let t : Bool = swap₀ mode3 law masks3 f plain in
-      let u : Bool = swap₁ mode3 law masks3 f plain in
-      let ps₁ : List Bool = pick t (swap false ps 0 1) ps in
-      let ps₂ : List Bool = pick u (swap false ps₁ 2 3) ps₁ in
-      let four₁ : length ps₁ ≡ 4 = once_length 0 ps t four in
-      let four₂ : length ps₂ ≡ 4 = once_length 1 ps₁ u four₁ in
-      let n : ℕ = index_number mode3 law masks3 f plain in
-      let same : (compressed mode3 f).p ≡ p_number ps₂ = once_bits 1 (omega arith) (anchored mode3 0 0 f) ps₁ u four₁ (once_bits 0 (omega arith) f ps t four bits) in
-      rw (map_same f.partition plain.partition, compress_indexes mode3 law masks3 f plain)
-      (ap (λ (b : List ℕ). record { block = b; error = error })
-      (ap (λ (es : List Rgb). finish (stream mode3 f.partition es ps₂ n 30)) (both_ends mode3 f t u plain.four)
-      ∙ data_packed mode3 law masks3 f plain ps₂ four₂ same (rw four₂ (omega arith))))
+  pub pack3 : Plain mode3 (block_fields f) → length ps ≡ 4 →
+      Rust.mode3 error f.partition f.ends ps (digits 2 f.indices) ≡ record { block = packed mode3 (compressed mode3 (block_fields f)); error = error }
+  unfolding Rust.mode3 swap_pairs
+  pack3 plain size = steps_packed mode3 is_mode3 f plain ps size bits error

@@ -10,7 +10,7 @@ use lib.Pow.{pow_pos, pow_mono, shl_exact, shr-shr, high, low}
 use lib.Seq.{take-suc, length-take-le}
 use lib.ListN.{length, get_or, take, replicate, length-append, length-replicate, replicate-append-replicate}
 use Rattle.lists.specs.Bits.{split, join}
-use Rattle.lists.proofs.Bits.{fits-same, fits-split, fits-length, fits-at, split-join, join-split, join_lt, join_snoc, sum-replicate}
+use Rattle.lists.proofs.Bits.{fits-same, fits-split, fits-length, fits-at, split-join, join-split, join_lt, join_append, join_single, sum-replicate}
 use Rattle.bptc_rust.specs.Words.{loop, enumerate}
 use Rattle.bptc_rust.specs.IndexList.{get, put, index_list}
 
@@ -27,13 +27,18 @@ pub digits_small : (I : ℕ) (xs : List ℕ) → Small I xs → digits I xs < 2 
 unfolding digits
 digits_small I xs h = rw sum-replicate at (join_lt (fits-same I xs (λ i l. h i)))
 
-digits_snoc : (I : ℕ) (xs : List ℕ) (v : ℕ) → digits I (xs ++ (v ∷ [])) ≡ v * 2 ^ (length xs * I) + digits I xs
+-- two lists, one after the other
+pub digits_append : (I : ℕ) (xs ys : List ℕ) → digits I (xs ++ ys) ≡ digits I ys * 2 ^ (length xs * I) + digits I xs
 unfolding digits
-digits_snoc I xs v =
-    rw (length-append, ← replicate-append-replicate, join_snoc (replicate (length xs) I) xs I v (rw length-replicate), sum-replicate)
-    (add_comm (join (replicate (length xs) I) xs) (v * 2 ^ (length xs * I)))
+digits_append I xs ys =
+    rw (length-append, ← replicate-append-replicate, join_append (replicate (length xs) I) xs (replicate (length ys) I) ys (rw length-replicate), sum-replicate)
 
--- one more
+-- one more above them
+pub digits_snoc : (I : ℕ) (xs : List ℕ) (v : ℕ) → digits I (xs ++ (v ∷ [])) ≡ v * 2 ^ (length xs * I) + digits I xs
+unfolding digits
+digits_snoc I xs v = digits_append I xs (v ∷ []) ∙ ap (λ (n : ℕ). n * 2 ^ (length xs * I) + digits I xs) (join_single I v)
+
+-- with one more
 pub small_snoc : (I : ℕ) (xs : List ℕ) (v : ℕ) → Small I xs → v < 2 ^ I → Small I (xs ++ (v ∷ []))
 small_snoc I [] v h hv zero = hv
 small_snoc I [] v h hv (suc i) = pow_pos I
@@ -81,7 +86,7 @@ unfolding digits
 split_digits k I n h =
     subst (λ (l : ℕ). join (replicate l I) (split (replicate k I) n) ≡ n) (sym (split-length k I n)) (join-split (replicate k I) n (rw sum-replicate h))
 
-module _ (I : ℕ) (narrow : I ≤ 3) where
+module _ (I : ℕ) (narrow : I ≤ 4) where
   -- sixteen of them have room
   pub room : (l : ℕ) → l < 16 → I + l * I ≤ 64
   room l h = omega (arith, mul-le-mul_right I (le-pred_of_lt h))

@@ -9,10 +9,13 @@ pub mod Pairs
 pub mod TopBit
 pub mod Without
 pub mod AnchorBits
+pub mod Order
 pub mod Masks
 pub mod Compressing
+pub mod Doubles
 pub mod Stream
 pub mod Swaps
+pub mod Written
 pub mod Blocks
 pub mod Packs
 pub mod Writing

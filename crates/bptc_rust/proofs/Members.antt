@@ -10,33 +10,36 @@ use lib.ListN.{length}
 use Rattle.lists.specs.Tests.{pick}
 use Rattle.lists.specs.Rows.{up_from, sum}
 use Rattle.lists.proofs.Tests.{pick_elim}
-use Rattle.bptc.specs.Partition.{subset_of}
 
 -- the sixteen pixels
 abbrev pub pixels : List ℕ
 pixels = up_from 0 16
 
 -- those of a list that lie in subset s
-unfoldable pub members : ℕ → ℕ → List ℕ → List ℕ
-members part s [] = []
-members part s (i ∷ is) = pick (eqb (subset_of part i) s) (i ∷ members part s is) (members part s is)
+unfoldable pub members : (ℕ → ℕ) → ℕ → List ℕ → List ℕ
+members subset s [] = []
+members subset s (i ∷ is) = pick (eqb (subset i) s) (i ∷ members subset s is) (members subset s is)
 
--- they are no more than the list has
-pub members_few : (part s : ℕ) (is : List ℕ) → length (members part s is) ≤ length is
-unfolding members
-members_few part s [] = omega arith
-members_few part s (i ∷ is) =
-    pick_elim (λ (xs : List ℕ). length xs ≤ length (i ∷ is)) (eqb (subset_of part i) s) (λ t. omega (arith, members_few part s is)) (λ t. omega (arith, members_few part s is))
+module _ (subset : ℕ → ℕ) (s : ℕ) where
+  -- they are no more than the list has
+  pub members_few : (is : List ℕ) → length (members subset s is) ≤ length is
+  unfolding members
+  members_few [] = omega arith
+  members_few (i ∷ is) =
+      pick_elim (λ (xs : List ℕ). length xs ≤ length (i ∷ is)) (eqb (subset i) s) (λ t. omega (arith, members_few is))
+      (λ t. omega (arith, members_few is))
 
--- what they sum to
-pub members_sum : (part s : ℕ) (g : ℕ → ℕ) (is : List ℕ) → sum (map g (members part s is)) ≡ sum (map (λ (i : ℕ). pick (eqb (subset_of part i) s) (g i) 0) is)
-unfolding members
-members_sum part s g [] = refl
-members_sum part s g (i ∷ is) = go (eqb (subset_of part i) s) (members_sum part s g is)
-  where
-    rest : ℕ
-    rest = sum (map (λ (i : ℕ). pick (eqb (subset_of part i) s) (g i) 0) is)
+  -- what they sum to
+  pub members_sum : (g : ℕ → ℕ) (is : List ℕ) → sum (map g (members subset s is))
+      ≡ sum (map (λ (i : ℕ). pick (eqb (subset i) s) (g i) 0) is)
+  unfolding members
+  members_sum g [] = refl
+  members_sum g (i ∷ is) = go (eqb (subset i) s) (members_sum g is)
+    where
+      rest : ℕ
+      rest = sum (map (λ (i : ℕ). pick (eqb (subset i) s) (g i) 0) is)
 
-    go : (t : Bool) → sum (map g (members part s is)) ≡ rest → sum (map g (pick t (i ∷ members part s is) (members part s is))) ≡ pick t (g i) 0 + rest
-    go true e = ap (λ (n : ℕ). g i + n) e
-    go false e = e ∙ sym (zero-add rest)
+      go : (t : Bool) → sum (map g (members subset s is)) ≡ rest → sum (map g (pick t (i ∷ members subset s is) (members subset s is)))
+          ≡ pick t (g i) 0 + rest
+      go true e = ap (λ (n : ℕ). g i + n) e
+      go false e = e ∙ sym (zero-add rest)

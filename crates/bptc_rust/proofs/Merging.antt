@@ -1,15 +1,15 @@
--- merge2 puts the indexes of both subsets where their pixels stand.
+-- The indexes of each subset's own pixels, merged: those of all sixteen. For any number of subsets, and merge2 is the case of two.
 use Prim.Native.Nat.{ℕ, zero, suc, ◌+◌, ◌^◌, ◌≤◌, ◌<◌}
 use native.Mathlib.Nat.{add-zero}
 use native.Mathlib.Omega.{arith}
 use mathlib.Core.Path.{◌≡◌, refl, sym, ap, ◌∙◌, subst}
 use mathlib.Core.Bool.{Bool, true, false}
-use mathlib.Core.List.{List, [], ◌∷◌, ◌++◌, map, append_assoc, append-nil}
+use mathlib.Core.List.{List, [], ◌∷◌, ◌++◌, map, append-nil, append_assoc}
 use lib.Dec.{eqb}
+use lib.ListN.{length, get_or, set, drop, replicate, length-replicate, length-set, get_or-replicate}
 use lib.Pow.{pow_pos}
-use lib.ListN.{length, get_or, drop}
-use lib.Seq.{get_or-drop, drop-drop}
-use borrow.Author.Tests.{eqb-true, eqb-false, eq-eqb, ne_eqb}
+use lib.Seq.{get_or-drop, drop-drop, get_or-set_same, get_or-set_other}
+use borrow.Author.Tests.{eqb-true, eqb-false, eq-eqb}
 use Rattle.lists.specs.Tests.{pick}
 use Rattle.lists.specs.Rows.{up_from}
 use Rattle.lists.specs.Bits.{join}
@@ -18,94 +18,117 @@ use Rattle.bptc.proofs.PartitionRule.{subset_two}
 use Rattle.bptc_rust.specs.Words.{loop}
 use Rattle.bptc_rust.specs.Subset2Map.{get_subset_index}
 use Rattle.bptc_rust.specs.IndexList.{get, put, merge2}
+use Rattle.bptc_rust.specs.Internal.Merge.{merge_step, merge_n}
 use Rattle.bptc_rust.proofs.Table.{map_of, subset-same}
 use Rattle.bptc_rust.proofs.Members.{pixels, members}
-use Rattle.bptc_rust.proofs.Digits.{digits, Small, small_snoc, length_snoc, put_digits, get_digits}
+use Rattle.bptc_rust.proofs.Digits.{digits, Small, get_digits, put_digits, small_snoc, length_snoc}
 
 next-at : (xs : List ℕ) (j x : ℕ) (ys : List ℕ) → drop j xs ≡ x ∷ ys → (get_or xs j 0 ≡ x) × (drop (j + 1) xs ≡ ys)
-next-at xs j x ys e = (ap (λ (n : ℕ). get_or xs n 0) (sym (add-zero j)) ∙ sym (get_or-drop j xs 0 0) ∙ ap (λ (l : List ℕ). get_or l 0 0) e, sym (drop-drop 1 j xs) ∙ ap (drop 1) e)
+next-at xs j x ys e = (
+  ap (λ (n : ℕ). get_or xs n 0) (sym (add-zero j)) ∙ sym (get_or-drop j xs 0 0)
+      ∙ ap (λ (l : List ℕ). get_or l 0 0) e,
+  sym (drop-drop 1 j xs) ∙ ap (drop 1) e,
+)
 
-module _ (I : ℕ) (narrow : I ≤ 3) (part : ℕ) (N₀ N₁ : ℕ → ℕ) (small₀ : (i : ℕ) → N₀ i < 2 ^ I) (small₁ : (i : ℕ) → N₁ i < 2 ^ I)
-    (L₀ L₁ : List ℕ) (tiny₀ : Small I L₀) (tiny₁ : Small I L₁) where
+module _ (n I : ℕ) (narrow : I ≤ 4) (subset : ℕ → ℕ) (inside : (i : ℕ) → subset i < n) (N : ℕ → ℕ → ℕ) (small : (s i : ℕ) → N s i < 2 ^ I)
+    (L : ℕ → List ℕ) (tiny : (s : ℕ) → Small I (L s)) where
   -- the index of pixel i
   abbrev R : ℕ → ℕ
-  R i = pick (eqb (subset_of part i) 0) (N₀ i) (N₁ i)
+  R i = N (subset i) i
 
-  -- one step of the loop
-  abbrev body : ℕ × ℕ × ℕ → ℕ → ℕ × ℕ × ℕ
-  body s i =
-      pick (eqb (get_subset_index (map_of part) i) 0) (put I s.0 i (get I (digits I L₀) s.1), s.1 + 1, s.2)
-      (put I s.0 i (get I (digits I L₁) s.2), s.1, s.2 + 1)
+  -- the lists as numbers
+  abbrev lists : ℕ → ℕ
+  lists s = digits I (L s)
 
-  put_on : (n v : ℕ) (done : List ℕ) → length done ≡ n → n < 16 → Small I done → v < 2 ^ I → put I (digits I done) n v ≡ digits I (done ++ (v ∷ []))
-  put_on n v done q l h hv = subst (λ (n : ℕ). put I (digits I done) n v ≡ digits I (done ++ (v ∷ []))) q (put_digits I narrow done v (omega arith) h hv)
+  put_on : (k v : ℕ) (done : List ℕ) → length done ≡ k → k < 16 → Small I done → v < 2 ^ I → put I (digits I done) k v
+      ≡ digits I (done ++ (v ∷ []))
+  put_on k v done q l h hv = subst (λ (k : ℕ). put I (digits I done) k v ≡ digits I (done ++ (v ∷ []))) q
+      (put_digits I narrow done v (omega arith) h hv)
 
-  merge_on : (k n j₀ j₁ : ℕ) (done : List ℕ) → length done ≡ n → n + k ≤ 16 → Small I done →
-      drop j₀ L₀ ≡ map N₀ (members part 0 (up_from n k)) → drop j₁ L₁ ≡ map N₁ (members part 1 (up_from n k)) →
-      (loop (up_from n k) (digits I done, j₀, j₁) body).0 ≡ digits I (done ++ map R (up_from n k))
+  -- what is left of each list are the indexes of its later pixels
+  abbrev Left : List ℕ → ℕ → ℕ → Type 0
+  Left js k from = (s : ℕ) → s < n → drop (get_or js s 0) (L s) ≡ map (N s) (members subset s (up_from from k))
+
+  left-next : (js : List ℕ) (k from : ℕ) → length js ≡ n → Left js (suc k) from →
+      Left (set js (subset from) (get_or js (subset from) 0 + 1)) k (suc from)
   unfolding members
-  merge_on zero n j₀ j₁ done q l h e₀ e₁ = ap (digits I) (sym (append-nil done))
-  merge_on (suc k) n j₀ j₁ done q l h e₀ e₁ = go (eqb (subset_of part n) 0) refl (merge_on k (suc n))
+  left-next js k from long left s h = go (eqb (subset from) s) refl (left s h)
     where
-      -- the later pixels of subset 0
-      M₀ : List ℕ
-      M₀ = members part 0 (up_from (suc n) k)
+      go : (t : Bool) → eqb (subset from) s ≡ t →
+          drop (get_or js s 0) (L s) ≡ map (N s)
+          (pick t (from ∷ members subset s (up_from (suc from) k)) (members subset s (up_from (suc from) k))) →
+          drop (get_or (set js (subset from) (get_or js (subset from) 0 + 1)) s 0) (L s)
+          ≡ map (N s) (members subset s (up_from (suc from) k))
+      go true e d =
+          let q : subset from ≡ s = eqb-true (subset from) s e in
+          rw (q, get_or-set_same js s (get_or js s 0 + 1) 0 (omega arith)) (next-at (L s) (get_or js s 0) (N s from) _ d).1
+      go false e d =
+          let ne : subset from ≡ s → ⊥ = eqb-false (subset from) s e in
+          rw (get_or-set_other js (subset from) s (get_or js (subset from) 0 + 1) 0 (λ r. ne (sym r))) d
 
-      -- and of subset 1
-      M₁ : List ℕ
-      M₁ = members part 1 (up_from (suc n) k)
+  left_here : (js : List ℕ) (k from : ℕ) → Left js (suc k) from → get_or (L (subset from)) (get_or js (subset from) 0) 0 ≡ R from
+  unfolding members
+  left_here js k from left =
+      let s : ℕ = subset from in
+      let d = left s (inside from) in
+      (next-at (L s) (get_or js s 0) (R from) (map (N s) (members subset s (up_from (suc from) k))) (rw (eq-eqb s s refl) at d)).0
 
-      -- the indexes that the rest of the loop makes of a state
-      next : ℕ × ℕ × ℕ → ℕ
-      next s = (loop (up_from (suc n) k) s body).0
-
-      -- the state after pixel n, where it lies in subset 0
-      first : ℕ × ℕ × ℕ
-      first = (put I (digits I done) n (get I (digits I L₀) j₀), j₀ + 1, j₁)
-
-      -- and in subset 1
-      second : ℕ × ℕ × ℕ
-      second = (put I (digits I done) n (get I (digits I L₁) j₁), j₀, j₁ + 1)
-
-      test : (t : Bool) → eqb (subset_of part n) 0 ≡ t → next (pick (eqb (get_subset_index (map_of part) n) 0) first second) ≡ next (pick t first second)
-      test t e = ap (λ (t : Bool). next (pick t first second)) (ap (λ (x : ℕ). eqb x 0) (subset-same part n) ∙ e)
-
-      joined : (v : ℕ) (t : Bool) → eqb (subset_of part n) 0 ≡ t → v ≡ pick t (N₀ n) (N₁ n) →
-          digits I ((done ++ (v ∷ [])) ++ map R (up_from (suc n) k)) ≡ digits I (done ++ (R n ∷ map R (up_from (suc n) k)))
-      joined v t e p =
-          ap (digits I) (append_assoc done (v ∷ []) (map R (up_from (suc n) k)))
-          ∙ ap (λ (v : ℕ). digits I (done ++ (v ∷ map R (up_from (suc n) k)))) (p ∙ ap (λ (t : Bool). pick t (N₀ n) (N₁ n)) (sym e))
-
-      go : (t : Bool) → eqb (subset_of part n) 0 ≡ t →
-          ((j₀ j₁ : ℕ) (done : List ℕ) → length done ≡ suc n → suc n + k ≤ 16 → Small I done → drop j₀ L₀ ≡ map N₀ M₀ → drop j₁ L₁ ≡ map N₁ M₁ →
-          next (digits I done, j₀, j₁) ≡ digits I (done ++ map R (up_from (suc n) k))) →
-          next (pick (eqb (get_subset_index (map_of part) n) 0) first second) ≡ digits I (done ++ (R n ∷ map R (up_from (suc n) k)))
-      go true e rest =
-          let no : eqb (subset_of part n) 1 ≡ false = ne_eqb (subset_of part n) 1 (λ z. omega (arith, eqb-true (subset_of part n) 0 e)) in
-          let (value, later) = next-at L₀ j₀ (N₀ n) (map N₀ M₀) (rw e at e₀) in
-          test true e
-          ∙ ap (λ (x : ℕ). next (x, j₀ + 1, j₁)) (ap (put I (digits I done) n) (get_digits I narrow L₀ j₀ tiny₀ ∙ value) ∙ put_on n (N₀ n) done q (omega arith) h (small₀ n))
-          ∙ rest (j₀ + 1) j₁ (done ++ (N₀ n ∷ [])) (length_snoc done (N₀ n) ∙ ap suc q) (omega arith) (small_snoc I done (N₀ n) h (small₀ n)) later (rw no at e₁)
-          ∙ joined (N₀ n) true e refl
-      go false e rest =
-          let yes : eqb (subset_of part n) 1 ≡ true = eq-eqb (subset_of part n) 1 (omega (arith, subset_two part n, eqb-false (subset_of part n) 0 e)) in
-          let (value, later) = next-at L₁ j₁ (N₁ n) (map N₁ M₁) (rw yes at e₁) in
-          test false e
-          ∙ ap (λ (x : ℕ). next (x, j₀, j₁ + 1)) (ap (put I (digits I done) n) (get_digits I narrow L₁ j₁ tiny₁ ∙ value) ∙ put_on n (N₁ n) done q (omega arith) h (small₁ n))
-          ∙ rest j₀ (j₁ + 1) (done ++ (N₁ n ∷ [])) (length_snoc done (N₁ n) ∙ ap suc q) (omega arith) (small_snoc I done (N₁ n) h (small₁ n)) (rw e at e₀) later
-          ∙ joined (N₁ n) false e refl
+  merge_on : (k from : ℕ) (js done : List ℕ) → length done ≡ from → length js ≡ n → from + k ≤ 16 → Small I done → Left js k from →
+      (loop (up_from from k) (digits I done, js) (merge_step I subset lists)).0 ≡ digits I (done ++ map R (up_from from k))
+  merge_on zero from js done q long l h left = ap (digits I) (sym (append-nil done))
+  merge_on (suc k) from js done q long l h left =
+      let s : ℕ = subset from in
+      let js' : List ℕ = set js s (get_or js s 0 + 1) in
+      let value : get I (lists s) (get_or js s 0) ≡ R from = get_digits I narrow (L s) (get_or js s 0) (tiny s)
+      ∙ left_here js k from left in
+      ap (λ (x : ℕ). (loop (up_from (suc from) k) (x, js') (merge_step I subset lists)).0)
+      (ap (put I (digits I done) from) value ∙ put_on from (R from) done q (omega arith) h (small s from))
+      ∙ merge_on k (suc from) js' (done ++ (R from ∷ [])) (length_snoc done (R from) ∙ ap suc q) (rw length-set long) (omega arith)
+      (small_snoc I done (R from) h (small s from))
+      (left-next js k from long left)
+      ∙ ap (digits I) (append_assoc done (R from ∷ []) (map R (up_from (suc from) k)))
 
 small_map : (I : ℕ) (N : ℕ → ℕ) → ((i : ℕ) → N i < 2 ^ I) → (is : List ℕ) → Small I (map N is)
 small_map I N h [] i = pow_pos I
 small_map I N h (x ∷ is) zero = h x
 small_map I N h (x ∷ is) (suc i) = small_map I N h is i
 
--- merge2 of the indexes of each subset's own pixels: those of all sixteen
-pub merged : (I : ℕ) → I ≤ 3 → (part : ℕ) (N₀ N₁ : ℕ → ℕ) → ((i : ℕ) → N₀ i < 2 ^ I) → ((i : ℕ) → N₁ i < 2 ^ I) →
-    merge2 I (map_of part) (digits I (map N₀ (members part 0 pixels))) (digits I (map N₁ (members part 1 pixels)))
-    ≡ digits I (map (λ (i : ℕ). pick (eqb (subset_of part i) 0) (N₀ i) (N₁ i)) pixels)
-unfolding merge2 digits join
-merged I narrow part N₀ N₁ h₀ h₁ =
-    merge_on I narrow part N₀ N₁ h₀ h₁ (map N₀ (members part 0 pixels)) (map N₁ (members part 1 pixels))
-    (small_map I N₀ h₀ (members part 0 pixels)) (small_map I N₁ h₁ (members part 1 pixels))
-    16 0 0 0 [] refl (omega arith) (λ i. pow_pos I) refl refl
+-- the indexes of all sixteen
+pub merged : (n I : ℕ) → I ≤ 4 → (subset : ℕ → ℕ) → ((i : ℕ) → subset i < n) → (N : ℕ → ℕ → ℕ) → ((s i : ℕ) → N s i < 2 ^ I) →
+    merge_n n I subset (λ (s : ℕ). digits I (map (N s) (members subset s pixels))) ≡ digits I (map (λ (i : ℕ). N (subset i) i) pixels)
+unfolding merge_n digits join
+merged n I narrow subset inside N small =
+    merge_on n I narrow subset inside N small (λ (s : ℕ). map (N s) (members subset s pixels))
+    (λ s. small_map I (N s) (small s) (members subset s pixels))
+    16 0 (replicate n 0) [] refl (length-replicate n 0) (omega arith) (λ i. pow_pos I)
+    (λ s h. ap (λ (j : ℕ). drop j (map (N s) (members subset s pixels))) (get_or-replicate {A = ℕ} n s 0 0 h))
+
+-- merge2 has the two counters by name
+module _ (I part : ℕ) (lists : ℕ → ℕ) where
+  -- its step
+  abbrev step : ℕ × ℕ × ℕ → ℕ → ℕ × ℕ × ℕ
+  step st i =
+      pick (eqb (get_subset_index (map_of part) i) 0) (put I st.0 i (get I (lists 0) st.1), st.1 + 1, st.2)
+      (put I st.0 i (get I (lists 1) st.2), st.1, st.2 + 1)
+
+  -- a state with its counters in a list
+  abbrev listed : ℕ × ℕ × ℕ → ℕ × List ℕ
+  listed st = (st.0, st.1 ∷ (st.2 ∷ []))
+
+  step_same : (st : ℕ × ℕ × ℕ) (i t : ℕ) → subset_of 2 part i ≡ t → t < 2 → listed (step st i)
+      ≡ merge_step I (subset_of 2 part) lists (listed st) i
+  step_same st i zero e h = rw (subset-same part i, e)
+  step_same st i (suc zero) e h = rw (subset-same part i, e)
+  step_same st i (suc (suc t)) e h = absurd (omega arith)
+
+  steps_same : (is : List ℕ) (st : ℕ × ℕ × ℕ) → (loop is st step).0 ≡ (loop is (listed st) (merge_step I (subset_of 2 part) lists)).0
+  steps_same [] st = refl
+  steps_same (i ∷ is) st =
+      steps_same is (step st i)
+      ∙ ap (λ (r : ℕ × List ℕ). (loop is r (merge_step I (subset_of 2 part) lists)).0)
+      (step_same st i (subset_of 2 part i) refl (subset_two part i))
+
+  -- so it is the loop of two
+  pub merge_two : merge2 I (map_of part) (lists 0) (lists 1) ≡ merge_n 2 I (subset_of 2 part) lists
+  unfolding merge2 merge_n
+  merge_two = steps_same pixels (0, 0, 0)

@@ -4,9 +4,11 @@ use native.Mathlib.Omega.{arith}
 use mathlib.Core.Path.{◌≡◌, refl, ap₂}
 use mathlib.Core.List.{List, ◌∷◌}
 use Rattle.bptc.specs.declared.Rgb.{Rgb}
-use Rattle.bptc.specs.Mode.{Mode, mode1, mode3, largest}
-use Rattle.bptc.specs.Colour.{both}
-use Rattle.bptc.specs.Palette.{between, blend, shade, row}
+use Rattle.bptc.specs.Mode.{Mode, mode1, mode3, IsMode, largest}
+use Rattle.bptc.specs.Internal.Colour.{both}
+use Rattle.bptc.specs.Palette.{between}
+use Rattle.bptc.specs.Internal.Palette.{blend, shade_rgb, row}
+use Rattle.bptc.proofs.Modes.{by_mode}
 use Rattle.bptc.proofs.Shading.{blend-colours}
 use Rattle.bptc.proofs.ColourBounds.{rgb_eq}
 use Rattle.bptc_rust.specs.Words.{shr}
@@ -36,8 +38,8 @@ then : {x y : Rgb} {xs ys : List Rgb} → x ≡ y → xs ≡ ys → x ∷ xs ≡
 then p q = ap₂ ◌∷◌ p q
 
 -- mode 1
-pub paints1 : Paints mode1
-unfolding palette_rgb interpolate_rgb row shade largest
+paints1 : Paints mode1
+unfolding palette_rgb interpolate_rgb row shade_rgb largest
 paints1 a b =
     then (first a b)
     (then (inner 9 a b (omega arith))
@@ -46,6 +48,10 @@ paints1 a b =
     (then (inner 37 a b (omega arith)) (then (inner 46 a b (omega arith)) (then (inner 55 a b (omega arith)) (then (last a b) refl)))))))
 
 -- mode 3
-pub paints3 : Paints mode3
-unfolding palette_rgb interpolate_rgb row shade largest
+paints3 : Paints mode3
+unfolding palette_rgb interpolate_rgb row shade_rgb largest
 paints3 a b = then (first a b) (then (inner 21 a b (omega arith)) (then (inner 43 a b (omega arith)) (then (last a b) refl)))
+
+-- either mode
+pub paints_of : (m : Mode) → IsMode m → Paints m
+paints_of = by_mode Paints paints1 paints3

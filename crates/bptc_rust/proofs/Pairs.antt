@@ -157,10 +157,10 @@ module _ (g : ℕ) (few : g ≤ 4) (xs : List ℕ) (sixteen : length xs ≡ 16) 
       ∙ sym (grouped g q₁ ∙ grouped h q₂ ∙ grouped i q₃ ∙ grouped j q₄)
 
 -- the index list of indices that stand in four bits each
-pub narrow_list : (g n : ℕ) → g ≤ 3 → n < 2 ^ 64 → Small g (split (replicate 16 4) n) →
+pub narrow_list : (g n : ℕ) → g ≤ 4 → n < 2 ^ 64 → Small g (split (replicate 16 4) n) →
     close_up 32 1 (8 * (4 - g)) (close_up 16 2 (4 * (4 - g)) (close_up 8 4 (2 * (4 - g)) (close_up 4 8 (4 - g) n))) ≡ index_list g (split (replicate 16 4) n)
 narrow_list g n few h small =
     let xs : List ℕ = split (replicate 16 4) n in
     let sixteen : length xs ≡ 16 = split-length 16 4 n in
     subst (λ (m : ℕ). close_up 32 1 (8 * (4 - g)) (close_up 16 2 (4 * (4 - g)) (close_up 8 4 (2 * (4 - g)) (close_up 4 8 (4 - g) m))) ≡ index_list g xs) (split_digits 16 4 n h)
-    (narrow g (omega arith) xs sixteen small ∙ sym (list_digits g few xs sixteen small))
+    (narrow g few xs sixteen small ∙ sym (list_digits g few xs sixteen small))

@@ -7,8 +7,9 @@ use lib.Dec.{eqb, eqb→eq}
 use Rattle.lists.proofs.Tables.{tested}
 use Rattle.bptc.specs.declared.Rgb.{Rgb}
 use Rattle.bptc.specs.Mode.{Mode, mode1, mode3}
-use Rattle.bptc.specs.Colour.{each, Below}
-use Rattle.bptc.specs.Shown.{widen, p_shown, shown}
+use Rattle.bptc.specs.Internal.Colour.{each, Below}
+use Rattle.bptc.specs.Shown.{widen}
+use Rattle.bptc.specs.Internal.Shown.{p_shown, shown}
 use Rattle.bptc.proofs.ColourBounds.{rgb_eq}
 use Rattle.bptc_rust.specs.Words.{shl}
 use Rattle.bptc_rust.specs.Colour.{promote, as_u8, p_promote}

@@ -15,8 +15,8 @@ use Rattle.lists.proofs.Tests.{and_left, and_right}
 use Rattle.lists.proofs.Tables.{tested}
 use Rattle.lists.proofs.Rows.{listed}
 use Rattle.bptc.specs.declared.Rgb.{Rgb}
-use Rattle.bptc.specs.Partition.{masks, mask_of, subset_of}
-use Rattle.bptc.specs.Colour.{black}
+use Rattle.bptc.specs.Partition.{masks, table, digits_of, subset_of}
+use Rattle.bptc.specs.Internal.Colour.{black}
 use Rattle.bptc_rust.specs.Words.{loop, shl, differs}
 use Rattle.bptc_rust.specs.Subset2Map.{Subset2Map, get_subset_index, count_zeros, bitset, sort_block}
 use Rattle.bptc_rust.proofs.Table.{map_of}
@@ -36,13 +36,13 @@ same_eq (x ∷ xs) [] t = absurd t
 same_eq (x ∷ xs) (y ∷ ys) t = ap₂ ◌∷◌ (eqb→eq x y (and_left (eqb x y) (same xs ys) t)) (same_eq xs ys (and_right (eqb x y) (same xs ys) t))
 
 -- sixteen numbers are sorted so, in every partition
-numbers_sorted : (part : ℕ) → part < 64 → sort_block 16 (map_of part) pixels ≡ members part 0 pixels ++ members part 1 pixels
-unfolding sort_block bitset get_subset_index map_of mask_of masks subset_of members
-numbers_sorted part h = same_eq _ _ (tested (λ (p : ℕ). same (sort_block 16 (map_of p) pixels) (members p 0 pixels ++ members p 1 pixels)) 64 tt part h)
+numbers_sorted : (part : ℕ) → part < 64 → sort_block 16 (map_of part) pixels ≡ members (subset_of 2 part) 0 pixels ++ members (subset_of 2 part) 1 pixels
+unfolding sort_block bitset get_subset_index map_of digits_of table masks subset_of members
+numbers_sorted part h = same_eq _ _ (tested (λ (p : ℕ). same (sort_block 16 (map_of p) pixels) (members (subset_of 2 p) 0 pixels ++ members (subset_of 2 p) 1 pixels)) 64 tt part h)
 
-zeros-counted : (part : ℕ) → part < 64 → count_zeros (map_of part) ≡ length (members part 0 pixels)
-unfolding count_zeros ones_in map_of mask_of masks subset_of members
-zeros-counted part h = eqb→eq _ _ (tested (λ (p : ℕ). eqb (count_zeros (map_of p)) (length (members p 0 pixels))) 64 tt part h)
+zeros-counted : (part : ℕ) → part < 64 → count_zeros (map_of part) ≡ length (members (subset_of 2 part) 0 pixels)
+unfolding count_zeros ones_in map_of digits_of table masks subset_of members
+zeros-counted part h = eqb→eq _ _ (tested (λ (p : ℕ). eqb (count_zeros (map_of p)) (length (members (subset_of 2 p) 0 pixels))) 64 tt part h)
 
 -- and so is whatever stands at them
 map-set : {A : Type 0} (f : ℕ → A) (xs : List ℕ) (i x : ℕ) → set (map f xs) i (f x) ≡ map f (set xs i x)
@@ -82,21 +82,21 @@ module _ (part : ℕ) (inside : part < 64) (cs : List Rgb) (sixteen : length cs 
   abbrev col : ℕ → Rgb
   col i = get_or cs i black
 
-  sorted : sort_block black (map_of part) cs ≡ map col (members part 0 pixels) ++ map col (members part 1 pixels)
+  sorted : sort_block black (map_of part) cs ≡ map col (members (subset_of 2 part) 0 pixels) ++ map col (members (subset_of 2 part) 1 pixels)
   sorted =
       let outside : col 16 ≡ black = get_or-eq_default cs black {n = 16} (omega arith) in
       ap₂ (λ (d : Rgb) (xs : List Rgb). sort_block d (map_of part) xs) (sym outside) (sym (listed black cs 16 sixteen))
       ∙ sort_map col 16 (map_of part) pixels
       ∙ ap (map col) (numbers_sorted part inside)
-      ∙ map-append col (members part 0 pixels) (members part 1 pixels)
+      ∙ map-append col (members (subset_of 2 part) 0 pixels) (members (subset_of 2 part) 1 pixels)
 
-  counted : length (map col (members part 0 pixels)) ≡ count_zeros (map_of part)
+  counted : length (map col (members (subset_of 2 part) 0 pixels)) ≡ count_zeros (map_of part)
   counted = simp length-map (sym (zeros-counted part inside))
 
   -- the part before split_index
-  pub first-pixels : take (count_zeros (map_of part)) (sort_block black (map_of part) cs) ≡ map col (members part 0 pixels)
-  first-pixels = ap (take (count_zeros (map_of part))) sorted ∙ take_at (map col (members part 0 pixels)) (map col (members part 1 pixels)) _ counted
+  pub first-pixels : take (count_zeros (map_of part)) (sort_block black (map_of part) cs) ≡ map col (members (subset_of 2 part) 0 pixels)
+  first-pixels = ap (take (count_zeros (map_of part))) sorted ∙ take_at (map col (members (subset_of 2 part) 0 pixels)) (map col (members (subset_of 2 part) 1 pixels)) _ counted
 
   -- and the part from it on
-  pub second-pixels : drop (count_zeros (map_of part)) (sort_block black (map_of part) cs) ≡ map col (members part 1 pixels)
-  second-pixels = ap (drop (count_zeros (map_of part))) sorted ∙ drop_at (map col (members part 0 pixels)) (map col (members part 1 pixels)) _ counted
+  pub second-pixels : drop (count_zeros (map_of part)) (sort_block black (map_of part) cs) ≡ map col (members (subset_of 2 part) 1 pixels)
+  second-pixels = ap (drop (count_zeros (map_of part))) sorted ∙ drop_at (map col (members (subset_of 2 part) 0 pixels)) (map col (members (subset_of 2 part) 1 pixels)) _ counted

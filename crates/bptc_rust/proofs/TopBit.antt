@@ -35,7 +35,7 @@ and-bit n k =
     rw e at (and_high n 1 k)
 
 -- the test of a digit's top bit
-pub msb : (I : ℕ) → I ≤ 3 → (xs : List ℕ) (i : ℕ) → i < 16 → 0 < I → Small I xs →
+pub msb : (I : ℕ) → I ≤ 4 → (xs : List ℕ) (i : ℕ) → i < 16 → 0 < I → Small I xs →
     differs (bit_and (digits I xs) (shl 64 1 (I - 1 + i * I))) 0 ≡ leb (2 ^ (I - 1)) (get_or xs i 0)
 msb I narrow xs i l pos h =
     let k : ℕ = I - 1 + i * I in

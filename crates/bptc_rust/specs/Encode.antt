@@ -1,7 +1,7 @@
 -- bc7.rs: compress_mode1 and compress_mode3, with the endpoints handed in.
 use Rattle.std.specs.Prelude.{ℕ, ◌+◌, ◌*◌, Bool, List, [], ◌∷◌, get_or, take, drop}
 use Rattle.bptc.specs.declared.Rgb.{Rgb}
-use Rattle.bptc.specs.Colour.{black}
+use Rattle.bptc.specs.Colour.{clear, rgb_of}
 use Rattle.bptc_block.specs.declared.PBits.{PBits}
 use Rattle.bptc_block.specs.declared.PBits.TheVariants.{Free, Fixed}
 use Rattle.bptc_block.specs.Compressed.{Compressed}
@@ -36,13 +36,13 @@ unique s p = (p_bit_at p (2 * s), p_bit_at p (2 * s + 1))
 
 -- endpoint k
 abbrev at : List Rgb → ℕ → Rgb
-at rgb k = get_or rgb k black
+at rgb k = get_or rgb k (rgb_of clear)
 
 -- mode 1
 unfoldable pub compress_mode1 : ℕ → List Rgb → PBits → List Rgb → Compressed
 compress_mode1 partition rgb ps block =
     let subset : Subset2Map = PARTITION-SET-2 partition in
-    let reordered : List Rgb = sort_block black subset block in
+    let reordered : List Rgb = sort_block (rgb_of clear) subset block in
     let split-index : ℕ = count_zeros subset in
     let (first-s0, others-s0) = possibilities SharedPBit (shared 0) ps in
     let (first-s1, others-s1) = possibilities SharedPBit (shared 1) ps in
@@ -54,7 +54,7 @@ compress_mode1 partition rgb ps block =
 unfoldable pub compress_mode3 : ℕ → List Rgb → PBits → List Rgb → Compressed
 compress_mode3 partition rgb ps block =
     let subset : Subset2Map = PARTITION-SET-2 partition in
-    let reordered : List Rgb = sort_block black subset block in
+    let reordered : List Rgb = sort_block (rgb_of clear) subset block in
     let split-index : ℕ = count_zeros subset in
     let (first-s0, others-s0) = possibilities UniquePBits (unique 0) ps in
     let (first-s1, others-s1) = possibilities UniquePBits (unique 1) ps in

@@ -14,3 +14,4 @@ pub mod PBitHandling
 pub mod Encode
 pub mod Packs
 pub mod Demand2
+pub mod Internal

@@ -9,5 +9,5 @@ abbrev pub p_bit_at : ℕ → ℕ → Bool
 p_bit_at p k = differs (bit_and (shr p k) 1) 0
 
 -- the lowest n bits
-abbrev pub p_bits : ℕ → ℕ → List Bool
-p_bits n p = map (p_bit_at p) (up_from 0 n)
+abbrev pub p_list : ℕ → ℕ → List Bool
+p_list n p = map (p_bit_at p) (up_from 0 n)

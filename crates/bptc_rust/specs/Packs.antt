@@ -2,9 +2,9 @@
 use Rattle.std.specs.Prelude.{ℕ, ◌≡◌, List, eqb, length}
 use Rattle.lists.specs.Tests.{pick}
 use Rattle.bptc_block.specs.declared.Fields.{Fields}
-use Rattle.bptc_block.specs.Ranges.{InRange}
+use Rattle.bptc_block.specs.Limits.{InRange}
 use Rattle.bptc_block.specs.PackCall.{pack_of, pack_into}
-use Rattle.bptc_rust.specs.PBits.{p_bits}
+use Rattle.bptc_rust.specs.PBits.{p_list}
 use Rattle.bptc_rust.specs.IndexList.{index_list}
 use Rattle.bptc_rust.specs.Compressed.{mode1, mode3}
 
@@ -12,8 +12,8 @@ use Rattle.bptc_rust.specs.Compressed.{mode1, mode3}
 unfoldable pub rust_block : ℕ → Fields → List ℕ
 rust_block mode f =
     pick (eqb mode 1)
-    (mode1 0 f.partition f.ends (p_bits 2 f.p) (index_list 3 f.indices)).block
-    (mode3 0 f.partition f.ends (p_bits 4 f.p) (index_list 2 f.indices)).block
+    (mode1 0 f.partition f.ends (p_list 2 f.p) (index_list 3 f.indices)).block
+    (mode3 0 f.partition f.ends (p_list 4 f.p) (index_list 2 f.indices)).block
 
 -- fields in range are not declined, and a part of 16 bytes then holds the Rust's block
 abbrev pub Packs : Type 0

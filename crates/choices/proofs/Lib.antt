@@ -1,6 +1,6 @@
 pub mod Mixing
 pub mod Subsets
-pub mod Picking
 pub mod BestOfFour
+pub mod Picking
 pub mod ChoiceKeys
 pub mod ChoicePicking

@@ -4,9 +4,9 @@
 ghost use Rattle.std.specs.Prelude.{◌≡◌, ◌+◌, ◌*◌, ◌/◌, ◌%◌, ◌<◌, map};
 ghost use Rattle.lists.specs.Rows.{up_from, over_pixels};
 ghost use Rattle.bptc.specs.Mode.{mode3};
-ghost use Rattle.bptc.specs.Colour.{colours_of};
+ghost use Rattle.bptc.specs.Internal.Colour.{colours_of};
 ghost use Rattle.bptc_block.specs.declared.PBits.TheVariants.{Free};
-ghost use Rattle.closest.specs.Found.{raised_in, indexes_in, over_second};
+ghost use Rattle.closest.specs.Found.{biased_in, indexes_in, over_second};
 ghost use Rattle.closest.specs.Pick.{picked_for};
 ghost use Rattle.choices.specs.Choices.{column_bits};
 
@@ -33,8 +33,8 @@ fn bits_of(column: u32) -> u32
 
 // What the least keys of the four columns tell, by a mask of the pixels' subsets, as `block_columns` and `column_sums` take it.
 fn choices(ends: Ends<Mode3>, px: &[u8; 48], mask: u32) -> ColumnSums
-    ensures all { result.all ≡ map (λ c. over_pixels (raised_in mode3 ends.stored (column_bits c) mask (colours_of px.now))) (up_from 0 4) }
-    ensures second { result.second ≡ map (λ c. over_second mask (raised_in mode3 ends.stored (column_bits c) mask (colours_of px.now))) (up_from 0 4) }
+    ensures all { result.all ≡ map (λ c. over_pixels (biased_in mode3 ends.stored (column_bits c) mask (colours_of px.now))) (up_from 0 4) }
+    ensures second { result.second ≡ map (λ c. over_second mask (biased_in mode3 ends.stored (column_bits c) mask (colours_of px.now))) (up_from 0 4) }
     ensures words { result.words ≡ map (λ c. indexes_in mode3 ends.stored (column_bits c) mask (colours_of px.now)) (up_from 0 4) }
 {
     let numbers = choice_numbers(ends);
@@ -43,7 +43,7 @@ fn choices(ends: Ends<Mode3>, px: &[u8; 48], mask: u32) -> ColumnSums
 
 // Each subset by itself keeps the first choice of least error.
 pub fn free3(query: &Query<Mode3>) -> Picked
-    ensures { result ≡ picked_for mode3 query.now.partition.number query.now.ends.stored Free (colours_of query.now.pixels.now) }
+    ensures { result ≡ picked_for mode3 query.now.partition.number query.now.ends.stored Free query.now.pixels.now }
 {
     let partition = query.partition;
     let s = choices(query.ends, query.pixels, u32::from(partition.mask()));

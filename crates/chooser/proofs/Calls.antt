@@ -19,7 +19,7 @@ use Rattle.bptc_block.proofs.Promise.{finish-keeps}
 use Rattle.chooser.specs.declared.Chooser.{Chooser}
 use Rattle.chooser.specs.Answers.{Offered, Taken}
 use Rattle.chooser.specs.StartCall.{start_refusal, empty_over, black_pixels, started_over, start_of}
-use Rattle.chooser.specs.OfferCall.{offer_refusal, finish_gives, kept, accepting, offer_of}
+use Rattle.chooser.specs.OfferCall.{offer_refusal, finish_gives, best, accepting, offer_of}
 use Rattle.chooser.specs.TakeCall.{take_refusal, take_of, take_into}
 use Rattle.chooser.specs.Calls.{held}
 
@@ -109,7 +109,7 @@ module _ (ch : Chooser) (part : List ℕ) where
     take_block = rw (eq-eqb (length part) 16 sixteen)
 
     -- so what is held is what the chooser keeps
-    pub held_kept : held ch part ≡ kept ch
+    pub held_kept : held ch part ≡ best ch
     unfolding held
     held_kept = rw (take_block, take_answer)
 

@@ -9,7 +9,7 @@ use Rattle.bptc_block.proofs.Checks.{pixels-checked, block-checked, candidate-ch
 use Rattle.bptc_block.proofs.PackCall.{pack-checked, pack_leaves}
 use Rattle.bptc_block.proofs.ReadCall.{read_number, read-checked, read-declined, read_leaves, measure-number, measure-declined}
 use Rattle.bptc_block.proofs.FinishCall.{finish-number, finish-checked, finish-declined, finish_leaves}
-use Rattle.chooser.specs.Answers.{Offered, Took}
+use Rattle.chooser.specs.Answers.{Offered, TakeAnswer}
 use Rattle.chooser.specs.Demand1.{Demand1}
 use Rattle.chooser.proofs.Calls.{start_answer, started_own, started_black, offer-number, offer_declined, take-number, take_answer, take_declined, take_leaves, take-keeps}
 
@@ -38,8 +38,8 @@ demand1 =
           record {
             checked = subst (BlockChecked block NotDeclined) (sym (take-number ch block)) (block-checked NotDeclined 0 block refl);
             left = λ ne.
-                let other : length block ≡ 16 → ⊥ = λ e. ne (ap (λ (t : Took). t.answer.refusal) (take_answer ch block e)) in
-                (ap (λ (t : Took). t.answer.error) (take_declined ch block other), take_leaves ch block other);
+                let other : length block ≡ 16 → ⊥ = λ e. ne (ap (λ (t : TakeAnswer). t.answer.refusal) (take_answer ch block e)) in
+                (ap (λ (t : TakeAnswer). t.answer.error) (take_declined ch block other), take_leaves ch block other);
           };
       read = λ block px.
           record {

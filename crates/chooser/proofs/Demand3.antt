@@ -20,7 +20,7 @@ use Rattle.chooser.specs.declared.Chooser.{Chooser}
 use Rattle.chooser.specs.Answers.{Started, Offered}
 use Rattle.chooser.specs.Rule.{invalid, better}
 use Rattle.chooser.specs.StartCall.{empty_over, started_over, start_of}
-use Rattle.chooser.specs.OfferCall.{offer_refusal, finish_gives, kept, accepting}
+use Rattle.chooser.specs.OfferCall.{offer_refusal, finish_gives, best, accepting}
 use Rattle.chooser.specs.Calls.{Call, offer, take, after, accepted, held}
 use Rattle.chooser.specs.Demand3.{Promise, SomeAccepted, FourEnds, Demand3, BeforeAny}
 use Rattle.chooser.proofs.Calls.{start_answer, started_own, started_black, started_bytes, started_length, offer_cases, gives_keeps, take-keeps, held_kept}
@@ -51,12 +51,12 @@ module _ (px part : List ℕ) (sixteen : length part ≡ 16) where
   error c = (finish_gives px c).error
 
   -- a chooser that keeps what finishing gave for one candidate goes on to the first of least error
-  goes_on : {ch end : Chooser} {cs : List Candidate} (best : Candidate) → AcceptedOffers ch cs end → ch.pixels ≡ px → kept ch ≡ finish_gives px best →
-      held end part ≡ finish_gives px (first_least error best cs)
-  goes_on {ch} best none p e = rw (least-none error best) (held_kept ch part sixteen ∙ e)
-  goes_on {ch} best (more {c = c} {cs = cs} ok rest) p e =
-      rw (least-next error best c cs)
-      (goes_on (pick (leb (error best) (error c)) best c) rest p (ap (λ (k : Compressed). better k (finish_gives ch.pixels c)) e ∙ rw p (sym (pick-map (finish_gives px) (leb (error best) (error c)) best c))))
+  goes_on : {ch end : Chooser} {cs : List Candidate} (first : Candidate) → AcceptedOffers ch cs end → ch.pixels ≡ px → best ch ≡ finish_gives px first →
+      held end part ≡ finish_gives px (first_least error first cs)
+  goes_on {ch} first none p e = rw (least-none error first) (held_kept ch part sixteen ∙ e)
+  goes_on {ch} first (more {c = c} {cs = cs} ok rest) p e =
+      rw (least-next error first c cs)
+      (goes_on (pick (leb (error first) (error c)) first c) rest p (ap (λ (k : Compressed). better k (finish_gives ch.pixels c)) e ∙ rw p (sym (pick-map (finish_gives px) (leb (error first) (error c)) first c))))
 
   -- from an empty chooser on: the first accepted candidate is kept, since its error is below that of `invalid`
   promise : {end : Chooser} (cs : List Candidate) → AcceptedOffers (empty_over px) cs end → length px ≡ 48 → Bytes px → FourEnds cs → SomeAccepted cs → Promise px cs (held end part)
@@ -95,7 +95,7 @@ pub before_any : BeforeAny
 before_any px calls part nothing sixteen =
     let ch : Chooser = (start_of px).chooser in
     let end : after ch calls ≡ ch = stays (subst (λ (cs : List Candidate). AcceptedOffers ch cs (after ch calls)) nothing (accepted-offers calls ch)) in
-    ap (λ (k : Chooser). held k part) end ∙ held_kept ch part sixteen ∙ ap (λ (s : Started). kept s.chooser) (start_answer px)
+    ap (λ (k : Chooser). held k part) end ∙ held_kept ch part sixteen ∙ ap (λ (s : Started). best s.chooser) (start_answer px)
   where
     stays : {ch end : Chooser} → AcceptedOffers ch [] end → end ≡ ch
     stays none = refl

@@ -22,7 +22,7 @@ pub record Taken : Type 0 where
   pub error : ℕ
 
 -- this beside the chooser
-pub record Took : Type 0 where
+pub record TakeAnswer : Type 0 where
   pub answer : Taken
   pub chooser : Chooser
 
@@ -40,7 +40,7 @@ taken (Ok error) = record { refusal = 0; error = error }
 taken (Err refusal) = record { refusal = number_of refusal; error = 0 }
 
 -- what `take` gives
-abbrev pub took : Result ℕ Refusal → Chooser → Took
+abbrev pub took : Result ℕ Refusal → Chooser → TakeAnswer
 took answer ch = record { answer = taken answer; chooser = ch }
 
 -- rows worked by hand: a chooser with an answer that is not declined, with one that is, and a take's error

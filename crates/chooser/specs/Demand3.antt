@@ -4,6 +4,7 @@ use mathlib.Core.List.{List, [], Memᴰ}
 use Rattle.lists.specs.Bytes.{Bytes}
 use Rattle.lists.specs.Least.{Earliest}
 use Rattle.bptc_block.specs.declared.Candidate.{Candidate}
+use Rattle.bptc_block.specs.RgbaCandidate.{rgba_candidate}
 use Rattle.bptc_block.specs.Chapter.{distance}
 use Rattle.bptc_block.specs.FinishCall.{finish_of, finish_into}
 use Rattle.bptc_block.specs.Compressed.{Compressed}
@@ -22,11 +23,11 @@ pub record Promise (px : List ℕ) (cs : List Candidate) (h : Compressed) : Type
   pub block : h.block ≡ finish_into px winner (replicate 16 0)
   pub error : h.error ≡ (finish_of px winner (replicate 16 0)).error
   -- no block that an accepted candidate could have become lies closer
-  pub closest : (c : Candidate) → Memᴰ c cs → (block : List ℕ) → Allowed c block → h.error ≤ distance px block
+  pub closest : (c : Candidate) → Memᴰ c cs → (block : List ℕ) → Allowed (rgba_candidate c) block → h.error ≤ distance px block
   -- and the held block is one that the winner could have become
-  pub allowed : Allowed winner h.block
+  pub allowed : Allowed (rgba_candidate winner) h.block
 
--- some offer was accepted
+-- some offer of the list was accepted
 abbrev pub SomeAccepted : List Candidate → Type 0
 SomeAccepted cs = cs ≡ [] → ⊥
 

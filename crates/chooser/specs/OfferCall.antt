@@ -18,16 +18,16 @@ unfoldable pub finish_gives : List ℕ → Candidate → Compressed
 finish_gives px c = record { block = finish_into px c (replicate 16 0); error = (finish_of px c (replicate 16 0)).error }
 
 -- the block and the error in a chooser
-abbrev pub kept : Chooser → Compressed
-kept ch = record { block = ch.block; error = ch.error }
+abbrev pub best : Chooser → Compressed
+best ch = record { block = ch.block; error = ch.error }
 
 -- a chooser with another block and error
-abbrev pub keeping : Chooser → Compressed → Chooser
-keeping ch k = record { pixels = ch.pixels; block = k.block; error = k.error }
+abbrev pub with_best : Chooser → Compressed → Chooser
+with_best ch k = record { pixels = ch.pixels; block = k.block; error = k.error }
 
 -- a chooser after an accepted offer: the better of its block and the finished one
 abbrev pub accepting : Chooser → Candidate → Chooser
-accepting ch c = keeping ch (better (kept ch) (finish_gives ch.pixels c))
+accepting ch c = with_best ch (better (best ch) (finish_gives ch.pixels c))
 
 -- the answer: the chooser after the offer, or the refusal and the chooser as it was
 unfoldable pub offer_of : Chooser → Candidate → Offered

@@ -1,11 +1,11 @@
 -- The blocks worked by hand, P1 to P12 and one of a colour with three different channels, as one table, and the test of a row.
-use Rattle.std.specs.Prelude.{ℕ, Bool, true, false, List, [], ◌∷◌, ◌++◌, map, T, eqb, replicate, take}
+use Rattle.std.specs.Prelude.{ℕ, suc, Bool, true, false, List, [], ◌∷◌, ◌++◌, T, eqb, get_or, length, replicate, take}
 use Rattle.lists.specs.Tests.{and, all}
 use Rattle.lists.specs.Parts.{joined}
 use Rattle.bptc.specs.declared.Rgb.{Rgb}
-use Rattle.bptc.specs.Mode.{Mode, mode1, mode3}
-use Rattle.bptc.specs.Colour.{black, bytes_of}
-use Rattle.bptc.specs.Palette.{row}
+use Rattle.bptc.specs.Mode.{Mode, mode1, mode3, largest}
+use Rattle.bptc.specs.Colour.{colour_by, channels}
+use Rattle.bptc.specs.Palette.{shade}
 use Rattle.bptc_block.specs.declared.PBits.{PBits}
 use Rattle.bptc_block.specs.declared.PBits.TheVariants.{Free, Fixed}
 use Rattle.bptc_block.specs.declared.Candidate.{Candidate}
@@ -29,40 +29,40 @@ same (x ∷ xs) (y ∷ ys) = and (eqb x y) (same xs ys)
 abbrev pub grey : ℕ → Rgb
 grey v = record { r = v; g = v; b = v }
 
--- so many zeros
+-- a list of so many zeros
 abbrev pub zeros : ℕ → List ℕ
 zeros n = replicate n 0
 
 -- the zero candidate of a mode, but for endpoint 0 and the p-bits
 abbrev pub zero_but : ℕ → Rgb → PBits → Candidate
-zero_but mode e p = record { mode = mode; partition = 0; ends = e ∷ replicate 3 black; p = p }
+zero_but mode e p = record { mode = mode; partition = 0; ends = e ∷ replicate 3 (grey 0); p = p }
 
 -- what is done, and what it gives
-pub data Row : Type 0 where
+pub data WorkedRow : Type 0 where
   -- finishing sixteen pixels of this colour: the block and the error
-  finishes : Rgb → Candidate → List ℕ → ℕ → Row
+  finishes : Rgb → Candidate → List ℕ → ℕ → WorkedRow
   -- packing this mode and partition, all else zero: the first two bytes
-  begins : ℕ → ℕ → List ℕ → Row
+  begins : ℕ → ℕ → List ℕ → WorkedRow
   -- these calls after a start over black pixels: the block and the error held
-  holds : List Call → List ℕ → ℕ → Row
+  holds : List Call → List ℕ → ℕ → WorkedRow
   -- the palette of a mode between 0 and 255: its levels
-  shows : Mode → List ℕ → Row
+  shows : Mode → List ℕ → WorkedRow
   -- reading a block with this byte 0: the refusal's number
-  declines : ℕ → ℕ → Row
+  declines : ℕ → ℕ → WorkedRow
 
 -- P1 to P12, in order, and the last
-unfoldable pub table : List Row
-table =
+unfoldable pub rows : List WorkedRow
+rows =
     -- P1, P2, P3: the zero candidates
-    finishes (grey 0) (zero_but 1 black (Fixed 0)) (0x02 ∷ zeros 15) 0
-    ∷ finishes (grey 0) (zero_but 3 black (Fixed 0)) (0x08 ∷ zeros 15) 0
-    ∷ finishes (grey 255) (zero_but 1 black (Fixed 0)) (0x02 ∷ zeros 15) 3121200
+    finishes (grey 0) (zero_but 1 (grey 0) (Fixed 0)) (0x02 ∷ zeros 15) 0
+    ∷ finishes (grey 0) (zero_but 3 (grey 0) (Fixed 0)) (0x08 ∷ zeros 15) 0
+    ∷ finishes (grey 255) (zero_but 1 (grey 0) (Fixed 0)) (0x02 ∷ zeros 15) 3121200
     -- P4, P5: endpoint 0 at its largest, in mode 3 with its p-bit
     ∷ finishes (grey 0) (zero_but 1 (grey 63) (Fixed 0)) (0x02 ∷ 0xc0 ∷ 0x0f ∷ 0x00 ∷ 0xc0 ∷ 0x0f ∷ 0x00 ∷ 0xc0 ∷ 0x0f ∷ zeros 7) 0
     ∷ finishes (grey 0) (zero_but 3 (grey 127) (Fixed 1)) (0x08 ∷ 0x00 ∷ 0xfe ∷ 0x00 ∷ 0x00 ∷ 0xe0 ∷ 0x0f ∷ 0x00 ∷ 0x00 ∷ 0xfe ∷ 0x00 ∷ 0x80 ∷ zeros 4) 0
     -- P6, P7: free p-bits
-    ∷ finishes (grey 2) (zero_but 1 black Free) (0x02 ∷ (zeros 9 ++ (0x03 ∷ zeros 5))) 0
-    ∷ finishes (grey 1) (zero_but 1 black Free) (0x02 ∷ zeros 15) 48
+    ∷ finishes (grey 2) (zero_but 1 (grey 0) Free) (0x02 ∷ (zeros 9 ++ (0x03 ∷ zeros 5))) 0
+    ∷ finishes (grey 1) (zero_but 1 (grey 0) Free) (0x02 ∷ zeros 15) 48
     -- P8: partition 63
     ∷ begins 1 63 (0xfe ∷ 0x00 ∷ [])
     ∷ begins 3 63 (0xf8 ∷ 0x03 ∷ [])
@@ -72,7 +72,7 @@ table =
     ∷ shows mode3 (0 ∷ 84 ∷ 171 ∷ 255 ∷ [])
     ∷ shows mode1 (0 ∷ 36 ∷ 72 ∷ 108 ∷ 147 ∷ 183 ∷ 219 ∷ 255 ∷ [])
     -- P11: P1's candidate and then P2's
-    ∷ holds (C.offer (zero_but 1 black (Fixed 0)) ∷ C.offer (zero_but 3 black (Fixed 0)) ∷ []) (0x02 ∷ zeros 15) 0
+    ∷ holds (C.offer (zero_but 1 (grey 0) (Fixed 0)) ∷ C.offer (zero_but 3 (grey 0) (Fixed 0)) ∷ []) (0x02 ∷ zeros 15) 0
     -- P12: blocks that are not read
     ∷ declines 0x00 8
     ∷ declines 0x01 9
@@ -89,19 +89,22 @@ abbrev pub lent : List ℕ
 lent = replicate 16 255
 
 -- the test of a row, by the definitions of the calls
-unfoldable pub check : Row → Bool
+unfoldable pub check : WorkedRow → Bool
 check (finishes x c block error) =
     let px : List ℕ = joined (λ (k : ℕ). x.r ∷ (x.g ∷ (x.b ∷ []))) 16 in
     and (eqb (finish_of px c lent).refusal 0) (and (same (finish_into px c lent) block) (eqb (finish_of px c lent).error error))
 check (begins mode part first) =
-    let f : Fields = record { partition = part; ends = replicate 4 black; p = 0; indices = zeros 16 } in
+    let f : Fields = record { partition = part; ends = replicate 4 (grey 0); p = 0; indices = zeros 16 } in
     and (eqb (pack_of mode f lent) 0) (same (take 2 (pack_into mode f lent)) first)
 check (holds calls block error) =
     let h : Compressed = held (after (start_of (zeros 48)).chooser calls) lent in
     and (same h.block block) (eqb h.error error)
-check (shows m levels) = same (bytes_of (row m (grey 0) (grey 255))) (bytes_of (map grey levels))
+check (shows m levels) =
+    and (eqb (length levels) (suc (largest m)))
+    (same (joined (λ (i : ℕ). channels (shade m (colour_by (λ (j : ℕ). 0)) (colour_by (λ (j : ℕ). 255)) i)) (length levels))
+    (joined (λ (i : ℕ). replicate 4 (get_or levels i 0)) (length levels)))
 check (declines first number) = eqb (read_of (first ∷ zeros 15) (zeros 48)).refusal number
 
 -- every row holds
 abbrev pub Worked : Type 0
-Worked = T (all check table)
+Worked = T (all check rows)

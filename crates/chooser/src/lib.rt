@@ -2,11 +2,11 @@
 #![tactic(auto)]
 
 ghost use Rattle.std.specs.Prelude.{◌≡◌};
-ghost use Rattle.bptc_block.specs.Fields.{word_candidate};
+ghost use Rattle.bptc_block.specs.Internal.Words.{word_candidate};
 ghost use Rattle.chooser.specs.Rule.{better};
 ghost use Rattle.chooser.specs.Answers.{started, offered, took};
 ghost use Rattle.chooser.specs.StartCall.{empty_over, start_of};
-ghost use Rattle.chooser.specs.OfferCall.{kept, keeping, accepting, offer_of};
+ghost use Rattle.chooser.specs.OfferCall.{best, with_best, accepting, offer_of};
 ghost use Rattle.chooser.specs.TakeCall.{take_of, take_into};
 
 use block::checks::accepted;
@@ -48,7 +48,7 @@ impl Chooser {
 
     // Compressed::better: the chooser with a block and its error where this error is smaller than the one held.
     fn better(mut self, block: [u8; 16], error: u32) -> Chooser
-        ensures { result ≡ keeping self (better (kept self) (record { block = block; error = error })) }
+        ensures { result ≡ with_best self (better (best self) (record { block = block; error = error })) }
     {
         if error < self.error {
             self.block = block;

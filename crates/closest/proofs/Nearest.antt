@@ -17,13 +17,14 @@ use Rattle.lists.proofs.Rows.{get_or-each}
 use Rattle.lists.proofs.Sums.{pixels-same, pixels-add}
 use Rattle.bptc.specs.declared.Rgb.{Rgb}
 use Rattle.bptc.specs.Mode.{Mode, largest}
-use Rattle.bptc.specs.Colour.{black}
-use Rattle.bptc.specs.Nearest.{nearest_by, nearest}
+use Rattle.bptc.specs.Internal.Colour.{black}
+use Rattle.bptc.specs.Palette.{nearest_by}
+use Rattle.bptc.specs.Internal.Nearest.{nearest_rgb}
 use Rattle.bptc.proofs.NearestIndex.{nearest-least, nearest_small}
-use Rattle.keys.specs.Keys.{raised}
-use Rattle.closest.specs.Found.{index_in, apart_in, indexes_in, found_at, over_second}
-use Rattle.closest.specs.Pick.{raised_all}
-use Rattle.closest.specs.Nearest.{index_at, apart_at, FindsNearest}
+use Rattle.keys.specs.Keys.{bias}
+use Rattle.closest.specs.Found.{index_in, distance_in, indexes_in, found_at, over_second}
+use Rattle.closest.specs.Pick.{bias_all}
+use Rattle.closest.specs.Nearest.{index_at, distance_at, FindsNearest}
 use Rattle.keys.proofs.FirstKey.{to, first_key}
 
 -- a lower index than the first of least distance is farther
@@ -51,24 +52,24 @@ module _ (m : Mode) (ends : List Rgb) (p mask : ℕ) (cs : List Rgb) where
       ∙ get_or-each 0 index 16 i h
 
   -- its distance
-  apart_is : (i : ℕ) → i < 16 → apart_at m ends p mask cs i (index_at m (found_at m ends p mask cs) i) ≡ apart_in m ends p mask cs i
-  apart_is i h = ap (apart_at m ends p mask cs i) (index_is i h)
+  apart_is : (i : ℕ) → i < 16 → distance_at m ends p mask cs i (index_at m (found_at m ends p mask cs) i) ≡ distance_in m ends p mask cs i
+  apart_is i h = ap (distance_at m ends p mask cs i) (index_is i h)
 
   -- a lower index is farther
-  farther : (i j : ℕ) → j < index_in m ends p mask cs i → apart_in m ends p mask cs i < apart_at m ends p mask cs i j
-  unfolding nearest nearest_by
-  farther i j h = lower_farther (apart_at m ends p mask cs i) (largest m) j (nearest_small m ends p (bit mask i) (get_or cs i black)) h
+  farther : (i j : ℕ) → j < index_in m ends p mask cs i → distance_in m ends p mask cs i < distance_at m ends p mask cs i j
+  unfolding nearest_rgb nearest_by
+  farther i j h = lower_farther (distance_at m ends p mask cs i) (largest m) j (nearest_small m ends p (bit mask i) (get_or cs i black)) h
 
-  all_is : (found_at m ends p mask cs).all ≡ over_pixels (λ (i : ℕ). apart_at m ends p mask cs i (index_at m (found_at m ends p mask cs) i)) + raised_all cs
-  unfolding found_at raised_all
-  all_is = pixels-same _ _ (λ i h. ap (λ (n : ℕ). n + raised (get_or cs i black)) (sym (apart_is i h))) ∙ pixels-add _ (λ (i : ℕ). raised (get_or cs i black))
+  all_is : (found_at m ends p mask cs).all ≡ over_pixels (λ (i : ℕ). distance_at m ends p mask cs i (index_at m (found_at m ends p mask cs) i)) + bias_all cs
+  unfolding found_at bias_all
+  all_is = pixels-same _ _ (λ i h. ap (λ (n : ℕ). n + bias (get_or cs i black)) (sym (apart_is i h))) ∙ pixels-add _ (λ (i : ℕ). bias (get_or cs i black))
 
   second_is : (found_at m ends p mask cs).second
-      ≡ over_second mask (λ (i : ℕ). apart_at m ends p mask cs i (index_at m (found_at m ends p mask cs) i)) + over_second mask (λ (i : ℕ). raised (get_or cs i black))
+      ≡ over_second mask (λ (i : ℕ). distance_at m ends p mask cs i (index_at m (found_at m ends p mask cs) i)) + over_second mask (λ (i : ℕ). bias (get_or cs i black))
   unfolding found_at
   second_is =
-      pixels-same _ _ (λ i h. go (eqb (bit mask i) 1) _ _ ∙ ap (λ (n : ℕ). pick (eqb (bit mask i) 1) n 0 + pick (eqb (bit mask i) 1) (raised (get_or cs i black)) 0) (sym (apart_is i h)))
-      ∙ pixels-add _ (λ (i : ℕ). pick (eqb (bit mask i) 1) (raised (get_or cs i black)) 0)
+      pixels-same _ _ (λ i h. go (eqb (bit mask i) 1) _ _ ∙ ap (λ (n : ℕ). pick (eqb (bit mask i) 1) n 0 + pick (eqb (bit mask i) 1) (bias (get_or cs i black)) 0) (sym (apart_is i h)))
+      ∙ pixels-add _ (λ (i : ℕ). pick (eqb (bit mask i) 1) (bias (get_or cs i black)) 0)
     where
       go : (t : Bool) (x y : ℕ) → pick t (x + y) 0 ≡ pick t x 0 + pick t y 0
       go true x y = refl

@@ -9,20 +9,21 @@ use Rattle.bptc.specs.declared.Rgb.{Rgb}
 use Rattle.lists.specs.Bytes.{Bytes}
 use Rattle.lists.specs.Digits.{bit}
 use Rattle.bptc.specs.Mode.{Mode, largest}
-use Rattle.bptc.specs.Colour.{black, colours_of, dist_sq}
-use Rattle.bptc.specs.Shown.{Stored}
-use Rattle.bptc.specs.Palette.{palette_at, palettes, coloured, word_at}
-use Rattle.bptc.specs.Nearest.{nearest_by, nearest}
-use Rattle.bptc.specs.Pixels.{pixel_of}
+use Rattle.bptc.specs.Internal.Colour.{black, colours_of, dist_sq}
+use Rattle.bptc.specs.Internal.Shown.{Stored}
+use Rattle.bptc.specs.Internal.Palette.{palette_colour, palettes, coloured, word_at}
+use Rattle.bptc.specs.Palette.{nearest_by}
+use Rattle.bptc.specs.Internal.Nearest.{nearest_rgb}
+use Rattle.bptc.specs.Internal.Pixels.{pixel_of}
 use Rattle.lists.proofs.Rows.{length-up_from, get_or-each, each_same, listed}
 use Rattle.bptc.proofs.ColourBounds.{pixels-shown}
 use Rattle.bptc.proofs.Modes.{Shades}
 use Rattle.bptc.proofs.Shading.{palette_byte, word-shown}
 use Rattle.bptc.specs.declared.Colour.{Colour}
-use Rattle.keys.specs.Keys.{least_of4, sum_key, raised, key_at, pixel_key, Steps}
+use Rattle.keys.specs.Keys.{least_of4, sum_key, bias, key_at, pixel_key, Steps}
 use Rattle.lists.specs.Rows.{up_from}
 use Rattle.key_numbers.specs.Numbers.{flat_rows, numbers_of}
-use Rattle.closest.specs.Found.{index_in, raised_in, least_keys}
+use Rattle.closest.specs.Found.{index_in, biased_in, least_keys}
 use Rattle.keys.proofs.KeySums.{pixel-byte, key-sum, key_small, small_each}
 use Rattle.key_numbers.proofs.Made.{made_range, made-key}
 use Rattle.keys.proofs.FirstKey.{Least, least-key}
@@ -30,7 +31,7 @@ use Rattle.keys.proofs.FirstKey.{Least, least-key}
 -- a colour of both palettes as rows
 module _ (m : Mode) (shades : Shades m) (few : largest m < 8) (ends : List Rgb) (p : ℕ) (stored : Stored m ends) (s j : ℕ) (two : s < 2) (index : j ≤ largest m) where
   -- the colour that its number stands for
-  pub colour-at : pixel_of (get_or (flat_rows (coloured (palettes m ends p))) (s * 8 + j) 0) ≡ palette_at m ends p s j
+  pub colour-at : pixel_of (get_or (flat_rows (coloured (palettes m ends p))) (s * 8 + j) 0) ≡ palette_colour m ends p s j
   unfolding flat_rows
   colour-at =
       let l : j < 8 = omega arith in
@@ -60,19 +61,19 @@ module _ (m : Mode) (shades : Shades m) (few : largest m < 8) (ends : List Rgb) 
   abbrev row_colour : ℕ → Rgb
   row_colour k = pixel_of (get_or (flat_rows (coloured (palettes m ends p))) k 0)
 
-  key-colour : (c : Rgb) (s j : ℕ) → s < 2 → j ≤ largest m → key_at 16 numbers c (s * 8 + j) ≡ sum_key 8 c (palette_at m ends p s j) j
+  key-colour : (c : Rgb) (s j : ℕ) → s < 2 → j ≤ largest m → key_at 16 numbers c (s * 8 + j) ≡ sum_key 8 c (palette_colour m ends p s j) j
   key-colour c s j two index =
       let l : j < 8 = omega arith in
       let k : s * 8 + j < 16 = omega arith in
       rw made (made-key 8 16 row_colour (λ (k : ℕ). k % 8) (s * 8 + j) k c ∙ ap₂ (sum_key 8 c) (colour-at m shades few ends p stored s j two index) (digits_mod s l))
 
   -- it is the raised distance times eight, and the index
-  key_is : (i j : ℕ) → j ≤ largest m → row_key i j ≡ (dist_sq (pixel i) (palette_at m ends p (bit mask i) j) + raised (pixel i)) * 8 + j
+  key_is : (i j : ℕ) → j ≤ largest m → row_key i j ≡ (dist_sq (pixel i) (palette_colour m ends p (bit mask i) j) + bias (pixel i)) * 8 + j
   unfolding pixel_key
   key_is i j index =
       let two : bit mask i < 2 = omega arith in
       key-colour (pixel i) (bit mask i) j two index
-      ∙ key-sum 8 (pixel i) (palette_at m ends p (bit mask i) j) j (pixels-shown px bytes i) (palette_byte m shades ends p (bit mask i) j two index stored)
+      ∙ key-sum 8 (pixel i) (palette_colour m ends p (bit mask i) j) j (pixels-shown px bytes i) (palette_byte m shades ends p (bit mask i) j two index stored)
 
   -- the numbers are in range
   pub in_range_lem : Steps 16 numbers
@@ -86,11 +87,11 @@ module _ (m : Mode) (shades : Shades m) (few : largest m < 8) (ends : List Rgb) 
       key_small 16 numbers (pixel i) (bit mask i * 8 + j) in_range_lem (pixels-shown px bytes i) (omega arith)
 
   -- the least key of pixel i tells its nearest index and the distance
-  best_is : (i t : ℕ) → Least (row_key i) (largest m) t → t ≡ raised_in m ends p mask (colours_of px) i * 8 + index_in m ends p mask (colours_of px) i
-  unfolding nearest nearest_by
+  best_is : (i t : ℕ) → Least (row_key i) (largest m) t → t ≡ biased_in m ends p mask (colours_of px) i * 8 + index_in m ends p mask (colours_of px) i
+  unfolding nearest_rgb nearest_by
   best_is i t l =
-      let d : ℕ → ℕ = λ (j : ℕ). dist_sq (pixel i) (palette_at m ends p (bit mask i) j) in
-      least-key d (raised (pixel i)) 8 (largest m) t few
+      let d : ℕ → ℕ = λ (j : ℕ). dist_sq (pixel i) (palette_colour m ends p (bit mask i) j) in
+      least-key d (bias (pixel i)) 8 (largest m) t few
       (record {
         below = λ j h. rw (← key_is i j h) (l.below j h);
         most = λ n h. l.most n (λ j k. rw (key_is i j k) (h j k));

@@ -2,7 +2,7 @@
 #![tactic(auto)]
 
 ghost use Rattle.std.specs.Prelude.{◌≡◌, ℕ, ◌^◌, ◌<◌, get_or};
-ghost use Rattle.bptc.specs.Colour.{colours_of};
+ghost use Rattle.bptc.specs.Internal.Colour.{colours_of};
 ghost use Rattle.closest.specs.Found.{least_keys, found_at};
 
 use crate::indexes::{summed, word};

@@ -18,8 +18,9 @@ use Rattle.lists.specs.Digits.{bit}
 use Rattle.lists.proofs.Tests.{pick_elim}
 use Rattle.lists.proofs.Rows.{get_or-each}
 use Rattle.bptc.specs.declared.Rgb.{Rgb}
-use Rattle.bptc.specs.Colour.{black, Below, colours_of}
-use Rattle.bptc.specs.Partition.{mask_of, subset_of}
+use Rattle.bptc.specs.Internal.Colour.{black, Below, colours_of}
+use Rattle.bptc.specs.Internal.Masks.{mask_of}
+use Rattle.bptc.specs.Partition.{subset_of}
 use Rattle.bptc.proofs.ColourBounds.{below-black, pixels-shown}
 use Rattle.corners.specs.declared.Bounds.{Bounds}
 use Rattle.corners.specs.Corners.{nowhere, widened, box_to, corners_to, corners_of, planes_of, colour_in, boxes_of, Inside, Boxed}
@@ -147,7 +148,7 @@ boxes_corners px partition =
     let colour : (i : ℕ) → i < 16 → colour_in (planes_of px) i ≡ get_or (colours_of px) i black =
     λ i h t. record { r = plane (λ (c : Rgb). c.r) i h t; g = plane (λ (c : Rgb). c.g) i h t; b = plane (λ (c : Rgb). c.b) i h t } in
     let same : (s : ℕ) → box_to (colour_in (planes_of px)) (λ (i : ℕ). eqb (bit (mask_of partition) i) s) 16 ≡ corners_of px partition s =
-    λ s. box_same (colour_in (planes_of px)) (λ (i : ℕ). get_or (colours_of px) i black) (λ (i : ℕ). eqb (bit (mask_of partition) i) s) (λ (i : ℕ). eqb (subset_of partition i) s) 16 colour (λ i h. refl) in
+    λ s. box_same (colour_in (planes_of px)) (λ (i : ℕ). get_or (colours_of px) i black) (λ (i : ℕ). eqb (bit (mask_of partition) i) s) (λ (i : ℕ). eqb (subset_of 2 partition i) s) 16 colour (λ i h. refl) in
     λ t. record {
       first = same 0 t;
       second = same 1 t;
@@ -155,16 +156,16 @@ boxes_corners px partition =
 
 module _ (px : List ℕ) (partition s : ℕ) where
   -- the box around the pixels of the subset among the first n holds each of them
-  boxed_to : (i n : ℕ) → i < n → subset_of partition i ≡ s → Inside (corners_to px partition s n) (get_or (colours_of px) i black)
+  boxed_to : (i n : ℕ) → i < n → subset_of 2 partition i ≡ s → Inside (corners_to px partition s n) (get_or (colours_of px) i black)
   unfolding corners_to box_to
   boxed_to i zero h e = absurd (omega arith)
   boxed_to i (suc n) h e =
       let c : Rgb = get_or (colours_of px) i black in
       elim (eq-or-lt_of_le {n = i} {m = n} (omega arith)) [
-        | inl same ↦ pick_elim (λ (k : Bounds). Inside k c) (eqb (subset_of partition n) s)
+        | inl same ↦ pick_elim (λ (k : Bounds). Inside k c) (eqb (subset_of 2 partition n) s)
             (λ t. rw same (widened-holds (corners_to px partition s n) (get_or (colours_of px) n black)))
-            (λ t. absurd (eqb-false _ _ t (ap (subset_of partition) (sym same) ∙ e)))
-        | inr less ↦ pick_elim (λ (k : Bounds). Inside k c) (eqb (subset_of partition n) s)
+            (λ t. absurd (eqb-false _ _ t (ap (subset_of 2 partition) (sym same) ∙ e)))
+        | inr less ↦ pick_elim (λ (k : Bounds). Inside k c) (eqb (subset_of 2 partition n) s)
             (λ t. widened-keeps (corners_to px partition s n) (get_or (colours_of px) n black) c (boxed_to i n less e))
             (λ t. boxed_to i n less e)
       ]
@@ -175,7 +176,7 @@ module _ (px : List ℕ) (partition s : ℕ) where
   shown_to_lem bytes zero =
       record { low = record { r = omega arith; g = omega arith; b = omega arith }; high = below-black 256 (omega arith) }
   shown_to_lem bytes (suc n) =
-      pick_elim ShownBounds (eqb (subset_of partition n) s)
+      pick_elim ShownBounds (eqb (subset_of 2 partition n) s)
       (λ t. widened-shown (corners_to px partition s n) (get_or (colours_of px) n black) (shown_to_lem bytes n) (pixels-shown px bytes n))
       (λ t. shown_to_lem bytes n)
 

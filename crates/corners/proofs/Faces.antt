@@ -10,7 +10,7 @@ use lib.ListN.{get_or}
 use borrow.Author.Tests.{eqb-true}
 use Rattle.lists.proofs.Tests.{pick_elim}
 use Rattle.bptc.specs.declared.Rgb.{Rgb}
-use Rattle.bptc.specs.Colour.{black, both, Below, colours_of}
+use Rattle.bptc.specs.Internal.Colour.{black, both, Below, colours_of}
 use Rattle.bptc.specs.Partition.{subset_of}
 use Rattle.bptc.proofs.ColourBounds.{pixels-shown}
 use Rattle.corners.specs.declared.Bounds.{Bounds}
@@ -44,7 +44,7 @@ module _ (px : List ℕ) (partition s : ℕ) (channel : Rgb → ℕ) (face : Bou
   stands (suc n) =
       let k : Bounds = corners_to px partition s n in
       let c : Rgb = get_or (colours_of px) n black in
-      pick_elim (Stands (suc n)) (eqb (subset_of partition n) s)
+      pick_elim (Stands (suc n)) (eqb (subset_of 2 partition n) s)
       (λ t. elim (moves k c) [
         | inl e ↦ rw e (later n {k = k} (stands n))
         | inr e ↦ inr (record { pixel = n; inside = omega arith; member = eqb-true _ _ t; same = sym e })
@@ -52,7 +52,7 @@ module _ (px : List ℕ) (partition s : ℕ) (channel : Rgb → ℕ) (face : Bou
       (λ t. later n {k = k} (stands n))
 
   -- after all it touches one: where it has not moved, a pixel that is known to be in the subset
-  touches : (i : ℕ) → i < 16 → subset_of partition i ≡ s →
+  touches : (i : ℕ) → i < 16 → subset_of 2 partition i ≡ s →
       (face (corners_of px partition s) ≡ face nowhere → channel (get_or (colours_of px) i black) ≡ face (corners_of px partition s)) →
       Touched px partition s 16 channel (face (corners_of px partition s))
   unfolding corners_of
@@ -63,7 +63,7 @@ module _ (px : List ℕ) (partition s : ℕ) (channel : Rgb → ℕ) (face : Bou
       ]
 
 -- both faces of a channel, of a subset that has a pixel
-module _ (px : List ℕ) (partition s i : ℕ) (h : i < 16) (e : subset_of partition i ≡ s) (channel : Rgb → ℕ)
+module _ (px : List ℕ) (partition s i : ℕ) (h : i < 16) (e : subset_of 2 partition i ≡ s) (channel : Rgb → ℕ)
     (at_each : (f : ℕ → ℕ → ℕ) (c d : Rgb) → channel (both f c d) ≡ f (channel c) (channel d)) where
   -- the colour of the pixel
   abbrev c : Rgb

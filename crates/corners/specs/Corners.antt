@@ -5,7 +5,7 @@ use Rattle.lists.specs.Tests.{pick}
 use Rattle.lists.specs.Rows.{up_from}
 use Rattle.lists.specs.Digits.{bit}
 use Rattle.bptc.specs.declared.Rgb.{Rgb}
-use Rattle.bptc.specs.Colour.{black, both, colours_of}
+use Rattle.bptc.specs.Internal.Colour.{black, both, colours_of}
 use Rattle.bptc.specs.Partition.{subset_of}
 use Rattle.corners.specs.declared.Bounds.{Bounds}
 use Rattle.corners.specs.declared.Planes.{Planes}
@@ -28,7 +28,7 @@ box_to colour inside (suc n) =
 
 -- the box around those of the first n pixels that are in subset s
 unfoldable pub corners_to : List ℕ → ℕ → ℕ → ℕ → Bounds
-corners_to px partition s n = box_to (λ (i : ℕ). get_or (colours_of px) i black) (λ (i : ℕ). eqb (subset_of partition i) s) n
+corners_to px partition s n = box_to (λ (i : ℕ). get_or (colours_of px) i black) (λ (i : ℕ). eqb (subset_of 2 partition i) s) n
 
 -- the box around the subset's pixels
 unfoldable pub corners_of : List ℕ → ℕ → ℕ → Bounds
@@ -69,14 +69,14 @@ pub record Inside (k : Bounds) (c : Rgb) : Type 0 where
 -- every pixel of a subset lies in the box around the subset
 abbrev pub Boxed : Type 0
 Boxed =
-    (px : List ℕ) (partition s i : ℕ) → i < 16 → subset_of partition i ≡ s →
+    (px : List ℕ) (partition s i : ℕ) → i < 16 → subset_of 2 partition i ≡ s →
     Inside (corners_of px partition s) (get_or (colours_of px) i black)
 
 -- among the first n pixels one of subset s has this value in a channel
 pub record Touched (px : List ℕ) (partition s n : ℕ) (channel : Rgb → ℕ) (value : ℕ) : Type 0 where
   pub pixel : ℕ
   pub inside : pixel < n
-  pub member : subset_of partition pixel ≡ s
+  pub member : subset_of 2 partition pixel ≡ s
   pub same : channel (get_or (colours_of px) pixel black) ≡ value
 
 -- each channel of a corner is that of a pixel of the subset
@@ -88,5 +88,5 @@ pub record Reached (px : List ℕ) (partition s : ℕ) (corner : Rgb) : Type 0 w
 -- no smaller box holds a subset that has a pixel: each face touches one of its pixels
 abbrev pub Tight : Type 0
 Tight =
-    (px : List ℕ) (partition s i : ℕ) → Bytes px → i < 16 → subset_of partition i ≡ s →
+    (px : List ℕ) (partition s i : ℕ) → Bytes px → i < 16 → subset_of 2 partition i ≡ s →
     Reached px partition s (corners_of px partition s).low × Reached px partition s (corners_of px partition s).high

@@ -55,8 +55,8 @@ unfoldable pub first_of : List ℕ → Row
 first_of refusals = first_from 0 refusals
 
 -- for n blocks that are measured
-abbrev pub row_of : List ℕ → List ℕ → ℕ → Row
-row_of groups blocks n = first_of (map (λ (k : ℕ). (measured_at groups blocks k).refusal) (up_from 0 n))
+abbrev pub measured_row_of : List ℕ → List ℕ → ℕ → Row
+measured_row_of groups blocks n = first_of (map (λ (k : ℕ). (measured_at groups blocks k).refusal) (up_from 0 n))
 
 -- for n blocks that are read
 abbrev pub read_row_of : List ℕ → List ℕ → ℕ → Row
@@ -88,4 +88,4 @@ abbrev pub ShownExactly : Type 0
 ShownExactly =
     (blocks groups : List ℕ) (n : ℕ) → length groups ≡ 48 * n →
     (errors_of (shown_of blocks groups n) blocks n ≡ replicate n 0)
-    × (row_of (shown_of blocks groups n) blocks n ≡ read_row_of blocks groups n)
+    × (measured_row_of (shown_of blocks groups n) blocks n ≡ read_row_of blocks groups n)

@@ -11,12 +11,12 @@ abbrev pub error_of : ℕ → ℕ
 error_of key = (key - 1) / 2147483648
 
 -- the number
-abbrev pub number_of : ℕ → ℕ
-number_of key = 16777215 - (key - 1) / 128 % 16777216
+abbrev pub entry_number : ℕ → ℕ
+entry_number key = 16777215 - (key - 1) / 128 % 16777216
 
 -- the mode, 1 or 3
-abbrev pub mode_of : ℕ → ℕ
-mode_of key = 1 + 2 * ((key - 1) / 64 % 2)
+abbrev pub entry_mode : ℕ → ℕ
+entry_mode key = 1 + 2 * ((key - 1) / 64 % 2)
 
 -- the partition
 abbrev pub partition_of : ℕ → ℕ
@@ -33,10 +33,10 @@ inserted_all held [] = held
 inserted_all held (key ∷ keys) = inserted_all (inserted held key) keys
 
 -- the parts of a key
-pub record Parts (key error number mode partition : ℕ) : Type 0 where
+pub record PartsOfKey (key error number mode partition : ℕ) : Type 0 where
   pub its_error : error_of key ≡ error
-  pub its_number : number_of key ≡ number
-  pub its_mode : mode_of key ≡ mode
+  pub its_number : entry_number key ≡ number
+  pub its_mode : entry_mode key ≡ mode
   pub its_partition : partition_of key ≡ partition
   -- it is not that of an empty place
   pub some : 0 < key
@@ -45,7 +45,7 @@ pub record Parts (key error number mode partition : ℕ) : Type 0 where
 abbrev pub KeyParts : Type 0
 KeyParts =
     (error number mode partition : ℕ) → number < 16777216 → (mode ≡ 1) ⊎ (mode ≡ 3) → partition < 64 →
-    Parts (key_of error number mode partition) error number mode partition
+    PartsOfKey (key_of error number mode partition) error number mode partition
 
 -- the greater error has the greater key
 abbrev pub WorseFirst : Type 0

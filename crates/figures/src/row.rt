@@ -1,7 +1,7 @@
 // The errors of a row of blocks, and the pixels that it shows.
 ghost use Rattle.std.specs.Prelude.{◌≡◌, ◌+◌, ◌*◌, ◌/◌, ◌<◌, ◌≤◌, length, IfErr};
 ghost use Rattle.bptc_block.specs.Answers.{measured};
-ghost use Rattle.figures.specs.Row.{measured_at, errors_of, shown_of, refusal_in, row_in, further, row_of, read_row_of};
+ghost use Rattle.figures.specs.Row.{measured_at, errors_of, shown_of, refusal_in, row_in, further, measured_row_of, read_row_of};
 
 use block::{Refusal, measure, read};
 
@@ -47,7 +47,7 @@ pub fn measure_row(groups: &[u8], blocks: &[u8], errors: &mut [u32]) -> Result<(
     requires blocks { length blocks.now ≡ 16 * length errors.old }
     requires few { length errors.old ≤ 4096 }
     ensures errors { errors.new ≡ errors_of groups.now blocks.now (length errors.old) }
-    ensures answer { row_in (length errors.old) result ≡ row_of groups.now blocks.now (length errors.old) }
+    ensures answer { row_in (length errors.old) result ≡ measured_row_of groups.now blocks.now (length errors.old) }
     ensures inside { IfErr result (λ d. d.at < length errors.old) }
 {
     let mut row = Ok(());

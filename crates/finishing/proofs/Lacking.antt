@@ -7,12 +7,12 @@ use mathlib.Core.List.{List}
 use lib.ListN.{get_or, length}
 use Rattle.lists.specs.Bytes.{Bytes}
 use Rattle.lists.specs.Rows.{sum_to, over_pixels}
-use Rattle.bptc.specs.Colour.{black, colours_of}
+use Rattle.bptc.specs.Internal.Colour.{black, colours_of}
 use Rattle.lists.proofs.Bytes.{byte_lt}
 use Rattle.lists.proofs.Sums.{sum_to-suc, pixels-same, pixels-add}
 use Rattle.bptc.proofs.ColourBounds.{colour-at, sq_up}
-use Rattle.keys.specs.Keys.{raised}
-use Rattle.closest.specs.Pick.{raised_all}
+use Rattle.keys.specs.Keys.{bias}
+use Rattle.closest.specs.Pick.{bias_all}
 use Rattle.keys.proofs.KeySums.{channel-sum}
 
 -- three places at a time
@@ -44,8 +44,8 @@ module _ (px : List ℕ) (bytes : Bytes px) (long : length px ≡ 48) where
   pixel_lack i = lack_at px (i * 3) + lack_at px (i * 3 + 1) + lack_at px (i * 3 + 2)
 
   -- the sum of both for a pixel
-  pixel-sum : (i : ℕ) → i < 16 → pixel_lack i + raised (get_or (colours_of px) i black) ≡ 195075
-  unfolding raised
+  pixel-sum : (i : ℕ) → i < 16 → pixel_lack i + bias (get_or (colours_of px) i black) ≡ 195075
+  unfolding bias
   pixel-sum i h =
       rw (colour-at px i (omega arith))
       (omega (arith, channel (get_or px (i * 3) 0) (byte_lt px bytes (i * 3)), channel (get_or px (i * 3 + 1) 0) (byte_lt px bytes (i * 3 + 1)), channel (get_or px (i * 3 + 2) 0) (byte_lt px bytes (i * 3 + 2))))
@@ -56,9 +56,9 @@ module _ (px : List ℕ) (bytes : Bytes px) (long : length px ≡ 48) where
   by_pixels = by_three (lack_at px) 16
 
   -- both together
-  pub lacking-raised : sum_to (lack_at px) 48 + raised_all (colours_of px) ≡ 3121200
-  unfolding raised_all over_pixels
+  pub lacking-raised : sum_to (lack_at px) 48 + bias_all (colours_of px) ≡ 3121200
+  unfolding bias_all over_pixels
   lacking-raised =
-      ap (λ (n : ℕ). n + raised_all (colours_of px)) by_pixels
-      ∙ sym (pixels-add pixel_lack (λ (i : ℕ). raised (get_or (colours_of px) i black)))
-      ∙ pixels-same (λ (i : ℕ). pixel_lack i + raised (get_or (colours_of px) i black)) (λ (i : ℕ). 195075) pixel-sum
+      ap (λ (n : ℕ). n + bias_all (colours_of px)) by_pixels
+      ∙ sym (pixels-add pixel_lack (λ (i : ℕ). bias (get_or (colours_of px) i black)))
+      ∙ pixels-same (λ (i : ℕ). pixel_lack i + bias (get_or (colours_of px) i black)) (λ (i : ℕ). 195075) pixel-sum

@@ -2,7 +2,6 @@
 #![tactic(auto)]
 
 ghost use Rattle.std.specs.Prelude.{◌≡◌};
-ghost use Rattle.bptc.specs.Colour.{colours_of};
 ghost use Rattle.finishing.specs.Indices.{nearest_for};
 
 use crate::error::{GREATEST, lacking};
@@ -26,7 +25,7 @@ pub struct Indices {
 
 // The indices, the error and the p-bits of a query, at p-bits that are fixed or free.
 pub fn nearest<M: FreeBits>(query: &Query<M>, p: PBits) -> Indices
-    ensures { result ≡ nearest_for M.mode query.now.partition.number query.now.ends.stored p (colours_of query.now.pixels.now) }
+    ensures { result ≡ nearest_for M.mode query.now.partition.number query.now.ends.stored p query.now.pixels.now }
 {
     let got = picked(query, p);
     Indices {

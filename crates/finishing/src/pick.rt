@@ -1,6 +1,5 @@
 // The search of a mode at fixed p-bits, or at the first p-bits of least error.
 ghost use Rattle.std.specs.Prelude.{◌≡◌};
-ghost use Rattle.bptc.specs.Colour.{colours_of};
 ghost use Rattle.bptc_block.specs.declared.PBits.TheVariants.{Free, Fixed};
 ghost use Rattle.closest.specs.Pick.{picked_for};
 
@@ -17,7 +16,7 @@ use search::Search;
 pub trait FreeBits: Search {
     // Each subset by itself keeps the first choice of least error.
     fn free(query: &Query<Self>) -> Picked
-        ensures { result ≡ picked_for Self.mode query.now.partition.number query.now.ends.stored Free (colours_of query.now.pixels.now) };
+        ensures { result ≡ picked_for Self.mode query.now.partition.number query.now.ends.stored Free query.now.pixels.now };
 }
 
 impl FreeBits for Mode1 {
@@ -48,7 +47,7 @@ impl FreeBits for Mode3 {
 
 // At fixed p-bits. `closest_rgb`, which the compiler does not put in line here, would sum the distances of subset 1 too.
 fn fixed<M: Search>(query: &Query<M>, p: u8) -> Picked
-    ensures { result ≡ picked_for M.mode query.now.partition.number query.now.ends.stored (Fixed p) (colours_of query.now.pixels.now) }
+    ensures { result ≡ picked_for M.mode query.now.partition.number query.now.ends.stored (Fixed p) query.now.pixels.now }
 {
     let mask = u32::from(query.partition.mask());
     let best = least_keys(query.ends, p, query.pixels, mask);
@@ -61,7 +60,7 @@ fn fixed<M: Search>(query: &Query<M>, p: u8) -> Picked
 
 // At p-bits that are fixed or free.
 pub(crate) fn picked<M: FreeBits>(query: &Query<M>, p: PBits) -> Picked
-    ensures { result ≡ picked_for M.mode query.now.partition.number query.now.ends.stored p (colours_of query.now.pixels.now) }
+    ensures { result ≡ picked_for M.mode query.now.partition.number query.now.ends.stored p query.now.pixels.now }
 {
     match p {
         PBits::Fixed(n) => fixed(query, n),

@@ -1,13 +1,13 @@
 // Finishing on words: the nearest indices, packed into a lent block.
 ghost use Rattle.std.specs.Prelude.{◌≡◌};
 ghost use Rattle.bptc.specs.Mode.{mode_numbered};
-ghost use Rattle.bptc_block.specs.Fields.{word_candidate};
+ghost use Rattle.bptc_block.specs.Internal.Words.{word_candidate};
 ghost use Rattle.bptc_block.specs.Refusal.{check_candidate};
 ghost use Rattle.bptc_block.specs.Finish.{finish};
 
 use crate::{FreeBits, Query, nearest};
 use bits::writing::{endpoints, write_words};
-use bptc_block::{CandidateWords, Words};
+use bptc_block::{CandidateWords, FieldWords};
 use palette::palettes::Ends;
 use palette::{Mode1, Mode3};
 use partitions::Partition;
@@ -37,7 +37,7 @@ fn finish<M: FreeBits>(pixels: &[u8; 48], candidate: Accepted, block: &mut [u8; 
         partition: Partition { number: partition },
     };
     let found = nearest(&query, p);
-    let words = Words {
+    let words = FieldWords {
         partition,
         ends,
         p: found.p,
@@ -48,6 +48,7 @@ fn finish<M: FreeBits>(pixels: &[u8; 48], candidate: Accepted, block: &mut [u8; 
 }
 
 // The block of a candidate into a lent part. Gives the error.
+#[tactic(auto, using(bptc::proofs::Modes::is_first, bptc::proofs::Modes::not_first))]
 pub fn finish_words(pixels: &[u8; 48], candidate: Accepted, block: &mut [u8; 16]) -> u32
     ensures error { result ≡ (finish pixels.now (word_candidate candidate.words)).error }
     ensures part { block.new ≡ (finish pixels.now (word_candidate candidate.words)).block }

@@ -9,7 +9,7 @@ use lib.ListN.{get_or, length, length-append, length-map}
 use borrow.Author.Tests.{ltb-true, ltb-false}
 use Rattle.lists.proofs.Rows.{length-up_from, get_or-each, each_front, each_past, each_same}
 use Rattle.bptc.specs.declared.Rgb.{Rgb}
-use Rattle.bptc.specs.Colour.{Below, dot}
+use Rattle.bptc.specs.Internal.Colour.{Below, dot}
 use Rattle.keys.specs.Keys.{own_of, step_of, sum_key, key_at, Steps}
 use Rattle.key_numbers.specs.Numbers.{numbers_of, steps_of}
 use Rattle.keys.proofs.KeySums.{norm-byte}

@@ -2,7 +2,7 @@
 use Rattle.std.specs.Prelude.{ℕ, ◌-◌, ◌/◌, ◌%◌, List, [], ◌∷◌, ◌++◌, map, ltb, get_or}
 use Rattle.lists.specs.Tests.{pick}
 use Rattle.lists.specs.Rows.{up_from}
-use Rattle.bptc.specs.Palette.{word_at}
+use Rattle.bptc.specs.Internal.Palette.{word_at}
 use Rattle.bptc.specs.declared.Rgb.{Rgb}
 use Rattle.bptc.specs.declared.Colour.{Colour}
 use Rattle.keys.specs.Keys.{own_of, step_of}

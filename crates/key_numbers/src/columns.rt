@@ -1,7 +1,7 @@
 // The numbers of four pairs of palettes with four colours each, a pair in each column.
 ghost use Rattle.std.specs.Prelude.{◌≡◌, ◌/◌, ◌%◌, map, get_or};
 ghost use Rattle.lists.specs.Rows.{up_from};
-ghost use Rattle.bptc.specs.Pixels.{pixel_of};
+ghost use Rattle.bptc.specs.Internal.Pixels.{pixel_of};
 ghost use Rattle.key_numbers.specs.Numbers.{column_words, joined_rows, flat_columns, numbers_of};
 
 use crate::numbers;

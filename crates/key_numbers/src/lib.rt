@@ -3,7 +3,7 @@
 #![tactic(auto)]
 
 ghost use Rattle.std.specs.Prelude.{◌≡◌, ◌*◌, ◌/◌, ◌%◌, ◌<◌, ◌≤◌, get_or};
-ghost use Rattle.bptc.specs.Pixels.{pixel_of};
+ghost use Rattle.bptc.specs.Internal.Pixels.{pixel_of};
 ghost use Rattle.keys.specs.Keys.{step_of, own_of};
 ghost use Rattle.key_numbers.specs.Numbers.{numbers_of};
 
@@ -20,7 +20,7 @@ fn step(x: u32) -> u32
 }
 
 // What a colour, given as one number, adds to a key by itself. Requires an index below eight.
-#[tactic(auto, using(keys::proofs::KeySums::squares), unfolding(keys::specs::Keys::own_of, bptc::specs::Colour::norm, bptc::specs::Colour::dot, bptc::specs::Pixels::pixel_of))]
+#[tactic(auto, using(keys::proofs::KeySums::squares), unfolding(keys::specs::Keys::own_of, bptc::specs::Internal::Colour::norm, bptc::specs::Internal::Colour::dot, bptc::specs::Internal::Pixels::pixel_of))]
 fn alone(c: u32, index: u32) -> u32
     requires { index < 8 }
     ensures { result ≡ own_of 8 (pixel_of c) index }

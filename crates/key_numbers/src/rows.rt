@@ -1,6 +1,6 @@
 // The numbers of both palettes of a block, a row of eight colours for each subset.
 ghost use Rattle.std.specs.Prelude.{◌≡◌, ◌%◌, get_or};
-ghost use Rattle.bptc.specs.Pixels.{pixel_of};
+ghost use Rattle.bptc.specs.Internal.Pixels.{pixel_of};
 ghost use Rattle.key_numbers.specs.Numbers.{flat_rows, numbers_of};
 
 use crate::numbers;

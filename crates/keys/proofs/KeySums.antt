@@ -10,11 +10,12 @@ use lib.ListN.{get_or, length, length-map, get_or-eq_default}
 use borrow.Author.Tests.{leb-true, leb-false, ltb-true, ltb-false}
 use Rattle.bptc.specs.declared.Rgb.{Rgb}
 use Rattle.lists.specs.Rows.{up_from}
-use Rattle.bptc.specs.Colour.{Below, sq_diff, dist_sq, dot, norm}
-use Rattle.bptc.specs.Pixels.{pixel_of}
+use Rattle.bptc.specs.Internal.Colour.{Below, dist_sq, dot, norm}
+use Rattle.bptc.specs.Colour.{sq_diff}
+use Rattle.bptc.specs.Internal.Pixels.{pixel_of}
 use Rattle.lists.proofs.Rows.{length-up_from, get_or-each}
 use Rattle.bptc.proofs.ColourBounds.{sq_up, sq_down, square_byte}
-use Rattle.keys.specs.Keys.{own_of, step_of, sum_key, raised, key_at, Steps}
+use Rattle.keys.specs.Keys.{own_of, step_of, sum_key, bias, key_at, Steps}
 
 -- a colour has bytes for channels, whatever the number
 pub pixel-byte : (x : ℕ) → Below 256 (pixel_of x)
@@ -63,8 +64,8 @@ step_scaled p x scale =
     sym (mul_assoc p x (2 * scale)) ∙ sym (mul_assoc (p * x) 2 scale) ∙ ap (λ (n : ℕ). n * scale) (mul_comm (p * x) 2)
 
 -- a key is the raised distance times the scale, and the index
-pub key-sum : (scale : ℕ) (p c : Rgb) (j : ℕ) → Below 256 p → Below 256 c → sum_key scale p c j ≡ (dist_sq p c + raised p) * scale + j
-unfolding sum_key own_of step_of raised dist_sq norm dot
+pub key-sum : (scale : ℕ) (p c : Rgb) (j : ℕ) → Below 256 p → Below 256 c → sum_key scale p c j ≡ (dist_sq p c + bias p) * scale + j
+unfolding sum_key own_of step_of bias dist_sq norm dot
 key-sum scale p c j h k =
     let x : ℕ = p.r * (255 - c.r) in
     let y : ℕ = p.g * (255 - c.g) in

@@ -2,7 +2,7 @@
 use Rattle.std.specs.Prelude.{ℕ, ◌+◌, ◌-◌, ◌*◌, ◌^◌, ◌≤◌, ◌<◌, ◌≡◌, List, min, get_or, length}
 use Rattle.bptc.specs.declared.Rgb.{Rgb}
 use Rattle.lists.specs.Digits.{bit}
-use Rattle.bptc.specs.Colour.{black, each, colours_of, dot, norm}
+use Rattle.bptc.specs.Internal.Colour.{black, each, colours_of, dot, norm}
 
 -- what a colour at index j adds to each of its keys: its squared length times the scale, and the index
 unfoldable pub own_of : ℕ → Rgb → ℕ → ℕ
@@ -16,9 +16,9 @@ step_of scale x = (255 - x) * (2 * scale)
 unfoldable pub sum_key : ℕ → Rgb → Rgb → ℕ → ℕ
 sum_key scale p c j = own_of scale c j + dot p (each (step_of scale) c)
 
--- what a pixel's distances are raised by: 195075 less the squared length of its complement
-unfoldable pub raised : Rgb → ℕ
-raised p = p.r * (510 - p.r) + p.g * (510 - p.g) + p.b * (510 - p.b)
+-- the bias of a pixel's keys, by which its distances are raised: 195075 less the squared length of its complement
+unfoldable pub bias : Rgb → ℕ
+bias p = p.r * (510 - p.r) + p.g * (510 - p.g) + p.b * (510 - p.b)
 
 -- the least of four numbers, taken in pairs
 abbrev pub least_of4 : (ℕ → ℕ) → ℕ

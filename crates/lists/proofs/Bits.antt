@@ -9,7 +9,8 @@ use lib.Arith.{digits_lt}
 use lib.Pow.{pow_pos, pow-add, shr-shr, shr_lt, high, low}
 use lib.Pow as P
 use Rattle.lists.specs.Rows.{sum}
-use Rattle.lists.specs.Bits.{Fits, none, more, split, join}
+use Rattle.lists.specs.Internal.Fields.{Fits, none, more}
+use Rattle.lists.specs.Bits.{split, join}
 
 -- values that fit, one list after the other
 pub fits_append : {ws vs us xs : List ℕ} → Fits ws vs → Fits us xs → Fits (ws ++ us) (vs ++ xs)

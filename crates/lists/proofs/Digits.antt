@@ -11,7 +11,8 @@ use lib.Count.{ones, ones_in, ones_step, count_trailing_zeros, under}
 use lib.Pow.{mod-pow-add}
 use borrow.Author.Tests.{eqb-true, eqb-false}
 use Rattle.lists.specs.Tests.{pick}
-use Rattle.lists.specs.Digits.{bit, ones_below, zeros_below}
+use Rattle.lists.specs.Digits.{bit, zeros_below}
+use Rattle.lists.specs.Internal.Ones.{ones_below}
 use Rattle.lists.proofs.Tests.{pick_elim}
 
 half : (k n : ℕ) → n < 2 ^ suc k → n / 2 < 2 ^ k

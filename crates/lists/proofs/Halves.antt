@@ -6,7 +6,7 @@ use mathlib.Core.Path.{◌≡◌, sym, ap, ◌∙◌}
 use lib.Arith.{digits_lt}
 use lib.ListN.{get_or}
 use lib.Pow.{pow-add, shr-shr, high, low}
-use Rattle.lists.specs.Bits.{halves}
+use Rattle.lists.specs.Internal.Fields.{halves}
 use Rattle.lists.specs.Bytes.{bytes}
 use Rattle.lists.proofs.Bits.{sum-replicate}
 use Rattle.lists.proofs.Bytes.{bits_of, window, bytes-at}

@@ -1,15 +1,10 @@
 -- Binary digits of a number.
-use Rattle.std.specs.Prelude.{ℕ, zero, suc, ◌+◌, ◌/◌, ◌%◌, ◌^◌, eqb}
+use Rattle.std.specs.Prelude.{ℕ, zero, suc, ◌/◌, ◌%◌, ◌^◌, eqb}
 use Rattle.lists.specs.Tests.{pick}
 
 -- digit i
 abbrev pub bit : ℕ → ℕ → ℕ
 bit n i = n / 2 ^ i % 2
-
--- how many of the k lowest digits are 1
-unfoldable pub ones_below : ℕ → ℕ → ℕ
-ones_below zero n = 0
-ones_below (suc k) n = n % 2 + ones_below k (n / 2)
 
 -- how many of the k lowest digits are 0 before the first 1: k where none is 1
 unfoldable pub zeros_below : ℕ → ℕ → ℕ

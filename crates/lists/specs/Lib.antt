@@ -5,3 +5,4 @@ pub mod Least
 pub mod Digits
 pub mod Bits
 pub mod Bytes
+pub mod Internal

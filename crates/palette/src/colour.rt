@@ -1,8 +1,9 @@
 // A colour's way from its stored channels to the shown ones, between two, and the distance of two.
 ghost use Rattle.std.specs.Prelude.{◌≡◌, ◌^◌, ◌<◌, ◌≤◌};
-ghost use Rattle.bptc.specs.Colour.{Below, each, both, sq_diff, dist_sq};
-ghost use Rattle.bptc.specs.Shown.{p_shown};
-ghost use Rattle.bptc.specs.Palette.{blend, colour};
+ghost use Rattle.bptc.specs.Internal.Colour.{Below, each, both, dist_sq};
+ghost use Rattle.bptc.specs.Colour.{sq_diff};
+ghost use Rattle.bptc.specs.Internal.Shown.{p_shown};
+ghost use Rattle.bptc.specs.Internal.Palette.{blend, colour};
 
 use bptc::{Colour, Rgb};
 
@@ -43,7 +44,7 @@ impl Width {
 }
 
 // A channel between two, at a weight in parts of 256. Requires a weight up to 256, as a mode's law says of its weights.
-#[tactic(auto, unfolding(bptc::specs::Palette::blend))]
+#[tactic(auto, unfolding(bptc::specs::Internal::Palette::blend))]
 fn interpolate(weight: u16, a: u8, b: u8) -> u8
     requires { weight ≤ 256 }
     ensures { result ≡ blend weight a b }
@@ -74,7 +75,7 @@ fn sq_diff(a: u8, b: u8) -> u32
 }
 
 // The summed squares over red, green and blue.
-#[tactic(auto, unfolding(bptc::specs::Colour::dist_sq))]
+#[tactic(auto, unfolding(bptc::specs::Internal::Colour::dist_sq))]
 pub fn dist_sq(a: Rgb, b: Rgb) -> u32
     ensures { (result ≡ dist_sq a b) × (result ≤ 195075) }
 {

@@ -1,7 +1,7 @@
 // The modes: what tells one from another.
 ghost use Rattle.std.specs.Prelude.{◌≡◌, ℕ, suc, ◌-◌, ◌≤◌, ◌^◌, List, [], ◌∷◌, refl};
-ghost use Rattle.bptc.specs.Mode.{Mode as ModeRecord, mode1, mode3, IsMode, largest};
-ghost use Rattle.bptc.specs.Palette.{row_weights};
+ghost use Rattle.bptc.specs.Mode.{Mode as ModeRecord, mode1, mode3, IsMode, largest, p_bits};
+ghost use Rattle.bptc.specs.Internal.Palette.{row_weights};
 ghost use Rattle.bptc.proofs.Modes.{is_mode1, is_mode3};
 
 use crate::colour::Width;
@@ -41,7 +41,7 @@ pub trait Mode {
 
     ghost index_bits_are: { INDEX_BITS ≡ mode.index_bits };
 
-    ghost p_bits_are: { P_BITS ≡ mode.p_bits };
+    ghost p_bits_are: { P_BITS ≡ p_bits mode };
 
     ghost weights_are: { WEIGHTS ≡ row_weights mode };
 
@@ -66,7 +66,7 @@ pub trait Mode {
 
     // The greatest p-bits, as one number.
     final fn max_p() -> u8
-        ensures { result ≡ 2 ^ mode.p_bits - 1 }
+        ensures { result ≡ 2 ^ p_bits mode - 1 }
     {
         (1 << Self::P_BITS) - 1
     }

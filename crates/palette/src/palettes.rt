@@ -1,9 +1,9 @@
 // The palettes of a block, from its stored endpoints and p-bits.
 ghost use Rattle.std.specs.Prelude.{◌≡◌, ℕ, ◌^◌, ◌<◌, ◌≤◌, map, get_or};
 ghost use Rattle.lists.specs.Rows.{up_from};
-ghost use Rattle.bptc.specs.Colour.{black, Below};
-ghost use Rattle.bptc.specs.Shown.{Stored, end_shown_by};
-ghost use Rattle.bptc.specs.Palette.{blended_rows, coloured, palettes};
+ghost use Rattle.bptc.specs.Internal.Colour.{black, Below};
+ghost use Rattle.bptc.specs.Internal.Shown.{Stored, end_shown_by};
+ghost use Rattle.bptc.specs.Internal.Palette.{blended_rows, coloured, palettes};
 
 use crate::Mode;
 use crate::colour::{Width, interpolate_rgb};
@@ -14,7 +14,7 @@ use std::marker::PhantomData;
 // The colour that endpoint k shows, by the widths of a mode. Requires one of the four endpoints, no more p-bits than these, and channels
 // within the width: `Ends` has that of a mode's, and these are of any width.
 #[inline(always)]
-#[tactic(auto, unfolding(bptc::specs::Shown::end_shown_by))]
+#[tactic(auto, unfolding(bptc::specs::Internal::Shown::end_shown_by))]
 fn end_shown(width: Width, p_bits: u32, ends: [Rgb; 4], p: u8, k: usize) -> Rgb
     requires most { p_bits ≤ 4 }
     requires four { k < 4 }

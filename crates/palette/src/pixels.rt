@@ -1,6 +1,6 @@
 // The sixteen pixels of 48 bytes.
 ghost use Rattle.std.specs.Prelude.{◌≡◌, ◌<◌, get_or};
-ghost use Rattle.bptc.specs.Colour.{black, colours_of};
+ghost use Rattle.bptc.specs.Internal.Colour.{black, colours_of};
 
 use bptc::Rgb;
 

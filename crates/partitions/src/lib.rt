@@ -3,10 +3,11 @@
 #![tactic(auto)]
 
 ghost use Rattle.std.specs.Prelude.{◌≡◌, ◌<◌};
-ghost use Rattle.bptc.specs.Partition.{mask_of, subset_of, anchor_of, size_of, entry_of};
+ghost use Rattle.bptc.specs.Internal.Masks.{mask_of, size_of, entry_of};
+ghost use Rattle.bptc.specs.Partition.{subset_of, anchor_of};
 
 // The mask of a partition: bit i is the subset of pixel i. Of any number, as callers count partitions by numbers; 0 past the table.
-#[tactic(auto, unfolding(bptc::specs::Partition::masks, bptc::specs::Partition::mask_of))]
+#[tactic(auto, unfolding(bptc::specs::Partition::table, bptc::specs::Partition::masks, bptc::specs::Partition::digits_of))]
 pub fn mask(partition: usize) -> u16
     ensures { result ≡ mask_of partition }
 {
@@ -98,7 +99,7 @@ impl Partition {
     #[tactic(auto, unfolding(bptc::specs::Partition::subset_of))]
     pub fn subset(self, pixel: usize) -> u8
         requires { pixel < 16 }
-        ensures { result ≡ subset_of self.number pixel }
+        ensures { result ≡ subset_of 2 self.number pixel }
     {
         // narrows a value that the check proves to fit
         ((self.mask() >> pixel) % 2) as u8
@@ -107,7 +108,7 @@ impl Partition {
     // The anchor pixel of subset 1.
     #[tactic(auto, unfolding(bptc::specs::Partition::anchors, bptc::specs::Partition::anchor_of))]
     pub fn anchor(self) -> usize
-        ensures { (result ≡ anchor_of self.number) × (result < 16) }
+        ensures { (result ≡ anchor_of 2 self.number 1) × (result < 16) }
     {
         match self.number {
             0 => 15,
@@ -179,7 +180,7 @@ impl Partition {
     }
 
     // How many pixels lie in subset 1.
-    #[tactic(auto, using(lists::proofs::Digits::ones_is, bptc::proofs::PartitionRule::placed), unfolding(bptc::specs::Partition::size_of))]
+    #[tactic(auto, using(lists::proofs::Digits::ones_is, bptc::proofs::PartitionRule::placed), unfolding(bptc::specs::Internal::Masks::size_of))]
     pub fn size(self) -> u32
         ensures { result ≡ size_of self.number }
     {
@@ -187,7 +188,7 @@ impl Partition {
     }
 
     // The indices of two bits: all ones at the pixels of subset 1, and its anchor above them.
-    #[tactic(auto, unfolding(bptc::specs::Partition::masks, bptc::specs::Partition::anchors, bptc::specs::Partition::mask_of, bptc::specs::Partition::subset_of, bptc::specs::Partition::anchor_of, bptc::specs::Partition::ones_of, bptc::specs::Partition::entry_of, lists::specs::Bits::join))]
+    #[tactic(auto, unfolding(bptc::specs::Partition::table, bptc::specs::Partition::masks, bptc::specs::Partition::anchors, bptc::specs::Partition::digits_of, bptc::specs::Partition::subset_of, bptc::specs::Partition::anchor_of, bptc::specs::Internal::Masks::ones_of, bptc::specs::Internal::Masks::entry_of, lists::specs::Bits::join))]
     pub fn entry2(self) -> u64
         ensures { result ≡ entry_of 2 self.number }
     {
@@ -263,7 +264,7 @@ impl Partition {
     // The indices of three bits: all ones at the pixels of subset 1, and its anchor above them.
     // A table beside `entry2` and not one over the width: no entry is shared, and to spread the mask at every call is slower (packing 188
     // to 227 instructions, with an older kit).
-    #[tactic(auto, unfolding(bptc::specs::Partition::masks, bptc::specs::Partition::anchors, bptc::specs::Partition::mask_of, bptc::specs::Partition::subset_of, bptc::specs::Partition::anchor_of, bptc::specs::Partition::ones_of, bptc::specs::Partition::entry_of, lists::specs::Bits::join))]
+    #[tactic(auto, unfolding(bptc::specs::Partition::table, bptc::specs::Partition::masks, bptc::specs::Partition::anchors, bptc::specs::Partition::digits_of, bptc::specs::Partition::subset_of, bptc::specs::Partition::anchor_of, bptc::specs::Internal::Masks::ones_of, bptc::specs::Internal::Masks::entry_of, lists::specs::Bits::join))]
     pub fn entry3(self) -> u64
         ensures { result ≡ entry_of 3 self.number }
     {

@@ -1,7 +1,7 @@
 // Photographs: opened, checked against their header, and read as groups, four rows at a time.
 ghost use Rattle.std.specs.Prelude.{IfOk, ◌≡◌, ◌<◌, ◌≤◌, ◌*◌, length};
 ghost use Rattle.groups.specs.Cutting.{groups_across};
-ghost use Rattle.text.specs.Ppm.{Sized};
+ghost use Rattle.text.specs.Ppm.{SizesRead};
 
 use crate::failure::Failure;
 use crate::inputs::Input;
@@ -50,7 +50,7 @@ pub struct Photo<'a> {
 
 // The header of an open photograph, in its first 4096 bytes: the program takes no heap, and its memory doesn't grow with a file.
 fn read_header<'a>(input: &Input<'a>) -> Result<Header, Failure<'a>>
-    ensures { IfOk result (λ h. Sized h 4096) }
+    ensures { IfOk result (λ h. SizesRead h 4096) }
 {
     let mut first = [0u8; 4096];
     let got = input.read(&mut first);

@@ -1,6 +1,6 @@
 // The figures of the rows of blocks that are measured so far.
 ghost use Rattle.std.specs.Prelude.{◌≡◌, ◌+◌, ◌<◌, ◌≤◌, length};
-ghost use Rattle.plates.specs.Sizes.{Within};
+ghost use Rattle.plates.specs.Sizes.{Bounded};
 
 use figures::Figures;
 
@@ -10,7 +10,7 @@ pub struct Tally {
     rows: usize,
     figures: Figures,
     ghost few: { rows ≤ 4096 },
-    ghost within: { Within figures rows },
+    ghost within: { Bounded figures rows },
 }
 
 impl Tally {
@@ -36,7 +36,7 @@ impl Tally {
 
     // The figures so far.
     pub fn figures(&self) -> Figures
-        ensures { (result ≡ self.now.figures) × Within result 4096 }
+        ensures { (result ≡ self.now.figures) × Bounded result 4096 }
     {
         self.figures
     }

@@ -10,10 +10,14 @@ use Rattle.lists.specs.Parts.{joined}
 use Rattle.lists.specs.Bytes.{Bytes}
 use Rattle.lists.proofs.Parts.{joined_length}
 use Rattle.bptc.specs.declared.Rgb.{Rgb}
-use Rattle.bptc.specs.Mode.{Known, mode_numbered}
-use Rattle.bptc.specs.Colour.{black, Below}
+use Rattle.bptc.specs.Mode.{mode_numbered}
+use Rattle.bptc.specs.Colour.{without_alpha}
+use Rattle.bptc.specs.Internal.Colour.{black, Below}
 use Rattle.bptc_block.specs.declared.Candidate.{Candidate}
-use Rattle.bptc_block.proofs.Refusals.{checked}
+use Rattle.bptc.proofs.Modes.{is_mode}
+use Rattle.bptc_block.specs.RgbaCandidate as P
+use Rattle.bptc_block.proofs.Refusals.{Known, own-number, checked}
+use Rattle.bptc_block.proofs.Stored.{rgb_stored}
 use Rattle.chooser.specs.declared.Chooser.{Chooser}
 use Rattle.chooser.specs.OfferCall.{offer_refusal, offer_of}
 use Rattle.chooser.specs.Calls.{accepted}
@@ -21,7 +25,7 @@ use Rattle.chooser.proofs.Calls.{offer-number}
 use Rattle.corners.specs.declared.Bounds.{Bounds}
 use Rattle.proposals.specs.Offers.{offers}
 use Rattle.corners.specs.Corners.{corners_of}
-use Rattle.proposals.specs.BuiltIn.{step_of, stored_in, between, proposal_of, both_of, proposals_to, proposals_of}
+use Rattle.proposals.specs.BuiltIn.{quantization_step, stored_in, between_corners, proposal_of, both_of, proposals_to, proposals_of}
 use Rattle.corners.proofs.Boxing.{ShownBounds, corners_shown}
 
 -- a candidate that is accepted, with four endpoints as its type has them
@@ -30,7 +34,8 @@ pub record Sound (c : Candidate) : Type 0 where
   pub passes : offer_refusal c ≡ 0
 
 -- a byte divided has as many bits as a mode stores
-stored_small : (mode x : ℕ) → Known mode → x < 256 → x / step_of mode < 2 ^ (mode_numbered mode).channel_bits
+stored_small : (mode x : ℕ) → Known mode → x < 256 → x / quantization_step mode < 2 ^ (mode_numbered mode).channel_bits
+unfolding mode_numbered
 stored_small mode x (inl e) h = rw e (omega arith)
 stored_small mode x (inr e) h = rw e (omega arith)
 
@@ -45,15 +50,27 @@ stored_below mode c known h =
 
 -- a proposal between corners of bytes
 between_sound : (mode partition : ℕ) (k l : Bounds) → Known mode → partition < 64 → ShownBounds k → ShownBounds l →
-    Sound (between mode partition k l)
-unfolding between
+    Sound (between_corners mode partition k l)
+unfolding between_corners without_alpha mode_numbered
 between_sound mode partition k l known h sk sl =
     record {
       four = refl;
-      passes = checked (between mode partition k l) 0 (record { mode = known; partition = h; stored = ends; p = tt });
+      passes =
+          checked (P.rgba_candidate (between_corners mode partition k l)) 0
+          (record {
+            mode = own-number mode known;
+            partition = few mode known;
+            room = refl;
+            stored = rgb_stored (mode_numbered mode) (is_mode mode) (between_corners mode partition k l).ends ends;
+            p = tt;
+          });
     }
   where
-    ends : (i : ℕ) → i < 4 → Below (2 ^ (mode_numbered mode).channel_bits) (get_or (between mode partition k l).ends i black)
+    few : (mode : ℕ) → Known mode → partition < 2 ^ (mode_numbered mode).partition_bits
+    few mode (inl e) = rw e h
+    few mode (inr e) = rw e h
+
+    ends : (i : ℕ) → i < 4 → Below (2 ^ (mode_numbered mode).channel_bits) (get_or (between_corners mode partition k l).ends i black)
     ends zero h = stored_below mode k.low known sk.low
     ends (suc zero) h = stored_below mode k.high known sk.high
     ends (suc (suc zero)) h = stored_below mode l.low known sl.low

@@ -6,14 +6,14 @@ use lib.Dec.{eqb, leb}
 use lib.ListN.{length, replicate}
 use Rattle.lists.proofs.Tests.{pick_elim}
 use Rattle.bptc_block.specs.declared.Candidate.{Candidate}
-use Rattle.bptc_block.specs.Finish.{finish}
+use Rattle.bptc_block.specs.Finish.{finished_by}
 use Rattle.bptc_block.specs.FinishCall.{finish_refusal, finish_into}
 use Rattle.bptc_block.specs.Compressed.{Compressed}
 use Rattle.bptc_block.proofs.Packed.{packed-length}
 use Rattle.chooser.specs.declared.Chooser.{Chooser}
 use Rattle.chooser.specs.Answers.{Started, Offered}
 use Rattle.chooser.specs.StartCall.{started_over, start_of}
-use Rattle.chooser.specs.OfferCall.{finish_gives, kept, offer_of}
+use Rattle.chooser.specs.OfferCall.{finish_gives, best, offer_of}
 use Rattle.chooser.specs.Calls.{after, held}
 use Rattle.std.specs.Prelude.{Result, Ok, Err}
 use Rattle.std.specs.Result.{result_unwrap_or}
@@ -34,11 +34,11 @@ baked-held px part s ch sixteen e f =
     f
     ∙ ap (λ (s : Started). after s.chooser (offers (proposals_of s.chooser.pixels))) e
     ∙ ap (λ (bs : List ℕ). after (start_of px).chooser (offers (proposals_of bs))) over in
-    held_kept ch part sixteen ∙ ap kept same ∙ sym (held_kept (chooser_for px) (replicate 16 0) refl)
+    held_kept ch part sixteen ∙ ap best same ∙ sym (held_kept (chooser_for px) (replicate 16 0) refl)
 
 -- a finished block has 16 bytes
 gives_length : (px : List ℕ) (c : Candidate) → length (finish_gives px c).block ≡ 16
-unfolding finish_gives finish_into finish
+unfolding finish_gives finish_into finished_by
 gives_length px c =
     pick_elim (λ (bs : List ℕ). length bs ≡ 16) (eqb (finish_refusal px c (replicate 16 0)) 0) (λ t. packed-length _ _) (λ t. refl)
 

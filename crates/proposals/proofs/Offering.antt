@@ -12,7 +12,7 @@ use Rattle.chooser.specs.OfferCall.{offer_of}
 use Rattle.chooser.specs.Calls.{Call, offer, handed_back, after}
 use Rattle.chooser.proofs.Calls.{offer_cases}
 use Rattle.proposals.specs.Offers.{offers}
-use Rattle.proposals.specs.Records.{candidate_at, candidates_in}
+use Rattle.proposals.specs.Records.{candidate_among, candidates_in}
 use Rattle.proposals.specs.BuiltIn.{both_of, proposals_to}
 
 -- calls after others
@@ -34,9 +34,9 @@ after-pixels (c ∷ cs) ch =
     ∙ offer_cases ch c (λ (o : Offered). o.chooser.pixels ≡ ch.pixels) (λ ok. refl) (λ t. refl)
 
 -- the candidates of one record more
-candidates_next : (records : List ℕ) (k : ℕ) → candidates_in records (k + 1) ≡ candidates_in records k ++ (candidate_at records k ∷ [])
+candidates_next : (records : List ℕ) (k : ℕ) → candidates_in records (k + 1) ≡ candidates_in records k ++ (candidate_among records k ∷ [])
 unfolding candidates_in
-candidates_next records k = rw add-one (each-suc (candidate_at records) k)
+candidates_next records k = rw add-one (each-suc (candidate_among records) k)
 
 module _ (ch held : Chooser) where
   -- from the chooser after the first candidates
@@ -54,8 +54,8 @@ module _ (ch held : Chooser) where
 
   -- the candidate of one more record
   pub records_next : (records : List ℕ) (k : ℕ) → held ≡ after ch (offers (candidates_in records k)) →
-      (offer_of held (candidate_at records k)).chooser ≡ after ch (offers (candidates_in records (k + 1)))
+      (offer_of held (candidate_among records k)).chooser ≡ after ch (offers (candidates_in records (k + 1)))
   unfolding after
   records_next records k e =
-      goes_on (candidates_in records k) (candidate_at records k ∷ []) e
+      goes_on (candidates_in records k) (candidate_among records k ∷ []) e
       ∙ ap (λ (cs : List Candidate). after ch (offers cs)) (sym (candidates_next records k))

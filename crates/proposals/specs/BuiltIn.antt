@@ -3,23 +3,23 @@ use Rattle.std.specs.Prelude.{ℕ, ◌/◌, List, [], ◌∷◌, eqb}
 use Rattle.lists.specs.Parts.{joined}
 use Rattle.lists.specs.Tests.{pick}
 use Rattle.bptc.specs.declared.Rgb.{Rgb}
-use Rattle.bptc.specs.Colour.{each}
+use Rattle.bptc.specs.Internal.Colour.{each}
 use Rattle.bptc_block.specs.declared.Candidate.{Candidate}
 use Rattle.bptc_block.specs.declared.PBits.TheVariants.{Free}
 use Rattle.corners.specs.declared.Bounds.{Bounds}
 use Rattle.corners.specs.Corners.{corners_of}
 
 -- how many shown levels of a channel one stored level stands for: a stored channel has 6 bits in mode 1 and 7 in mode 3
-abbrev pub step_of : ℕ → ℕ
-step_of mode = pick (eqb mode 1) 4 2
+abbrev pub quantization_step : ℕ → ℕ
+quantization_step mode = pick (eqb mode 1) 4 2
 
 -- a colour as a mode stores it
 abbrev pub stored_in : ℕ → Rgb → Rgb
-stored_in mode c = each (λ (x : ℕ). x / step_of mode) c
+stored_in mode c = each (λ (x : ℕ). x / quantization_step mode) c
 
 -- the proposal between the corners of the two subsets' boxes, with its p-bits free
-unfoldable pub between : ℕ → ℕ → Bounds → Bounds → Candidate
-between mode partition first second =
+unfoldable pub between_corners : ℕ → ℕ → Bounds → Bounds → Candidate
+between_corners mode partition first second =
     record {
       mode = mode;
       partition = partition;
@@ -31,7 +31,7 @@ between mode partition first second =
 
 -- a mode's proposal for a partition
 abbrev pub proposal_of : List ℕ → ℕ → ℕ → Candidate
-proposal_of px mode partition = between mode partition (corners_of px partition 0) (corners_of px partition 1)
+proposal_of px mode partition = between_corners mode partition (corners_of px partition 0) (corners_of px partition 1)
 
 -- a partition's proposals, mode 1 and then mode 3
 abbrev pub both_of : List ℕ → ℕ → List Candidate

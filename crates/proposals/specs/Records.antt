@@ -5,7 +5,7 @@ use Rattle.lists.specs.Parts.{part_at}
 use Rattle.lists.specs.Tests.{all}
 use Rattle.bptc.specs.declared.Rgb.{Rgb}
 use Rattle.bptc_block.specs.declared.Candidate.{Candidate}
-use Rattle.bptc_block.specs.Fields.{p_bits_of}
+use Rattle.bptc_block.specs.Internal.Words.{p_bits_of}
 
 -- an endpoint: red, green, blue
 abbrev pub endpoint_in : List ℕ → Rgb
@@ -28,12 +28,12 @@ candidate_in bs =
     }
 
 -- the candidate of record k
-abbrev pub candidate_at : List ℕ → ℕ → Candidate
-candidate_at records k = candidate_in (part_at 16 k records)
+abbrev pub candidate_among : List ℕ → ℕ → Candidate
+candidate_among records k = candidate_in (part_at 16 k records)
 
 -- the candidates of the first n records
 unfoldable pub candidates_in : List ℕ → ℕ → List Candidate
-candidates_in records n = map (candidate_at records) (up_from 0 n)
+candidates_in records n = map (candidate_among records) (up_from 0 n)
 
 -- the last byte of record k is 0 or 1
 abbrev pub flag_good : List ℕ → ℕ → Bool

@@ -3,7 +3,7 @@ ghost use Rattle.std.specs.Prelude.{◌≡◌};
 ghost use Rattle.chooser.specs.Calls.{after};
 ghost use Rattle.proposals.specs.Offers.{offers};
 ghost use Rattle.corners.specs.Corners.{planes_of};
-ghost use Rattle.proposals.specs.BuiltIn.{stored_in, between, both_of, proposals_of};
+ghost use Rattle.proposals.specs.BuiltIn.{stored_in, between_corners, both_of, proposals_of};
 
 use block::{Candidate, PBits, Rgb};
 use chooser::Chooser;
@@ -24,9 +24,9 @@ fn stored<M: Mode>(c: Rgb) -> Rgb
 }
 
 // The proposal between the corners of the two subsets' boxes, with its p-bits free.
-#[tactic(auto, unfolding(crate::specs::BuiltIn::between))]
+#[tactic(auto, unfolding(crate::specs::BuiltIn::between_corners))]
 fn proposal<M: Mode>(partition: u8, boxes: Boxes) -> Candidate
-    ensures { result ≡ between M.mode.number partition boxes.first boxes.second }
+    ensures { result ≡ between_corners M.mode.number partition boxes.first boxes.second }
 {
     let Boxes { first, second } = boxes;
     Candidate {

@@ -3,10 +3,13 @@
 
 ghost use Rattle.std.specs.Prelude.{◌≡◌, ◌+◌, ◌*◌, ◌≤◌, ◌<◌, map, get_or, drop};
 ghost use Rattle.lists.specs.Rows.{up_from};
-ghost use Rattle.lists.specs.Bits.{field_at, split};
+ghost use Rattle.lists.specs.Internal.Fields.{field_at};
+ghost use Rattle.lists.specs.Bits.{split};
 ghost use Rattle.lists.specs.Bytes.{number};
 ghost use Rattle.bptc.specs.Partition.{anchor_of};
-ghost use Rattle.bptc_block.specs.Fields.{index_width_by, widths, end_from};
+ghost use Rattle.bptc.specs.Mode.{p_bits};
+ghost use Rattle.bptc_block.specs.Fields.{widths, rgb_fields};
+ghost use Rattle.bptc_block.specs.Internal.Front.{index_width_by, rgb_from};
 ghost use Rattle.bptc_block.specs.Packed.{fields_of};
 
 use bptc::Rgb;
@@ -51,7 +54,7 @@ fn p_at<M: Mode>() -> u32
 
 // The bit at which the indices begin.
 fn indices_at<M: Mode>() -> u32
-    ensures { result ≡ M.mode.number + 7 + 12 * M.mode.channel_bits + M.mode.p_bits }
+    ensures { result ≡ M.mode.number + 7 + 12 * M.mode.channel_bits + p_bits M.mode }
 {
     p_at::<M>() + M::P_BITS
 }
@@ -59,7 +62,7 @@ fn indices_at<M: Mode>() -> u32
 // The stored endpoint k, from four reds, four greens and four blues.
 fn end_at<M: Mode>(block: &[u8], k: u32) -> Rgb
     requires { k < 4 }
-    ensures { result ≡ end_from (number block.now) (M.mode.number + 7) M.mode.channel_bits k }
+    ensures { result ≡ rgb_from (number block.now) (M.mode.number + 7) M.mode.channel_bits k }
 {
     let at = ends_at::<M>();
     let bits = M::CHANNEL_BITS;
@@ -72,7 +75,7 @@ fn end_at<M: Mode>(block: &[u8], k: u32) -> Rgb
 
 // The four stored endpoints.
 fn ends<M: Mode>(block: &[u8]) -> [Rgb; 4]
-    ensures { result ≡ map (end_from (number block.now) (M.mode.number + 7) M.mode.channel_bits) (up_from 0 4) }
+    ensures { result ≡ map (rgb_from (number block.now) (M.mode.number + 7) M.mode.channel_bits) (up_from 0 4) }
 {
     // Rust has no `From` between usize and u32
     array::from_fn(|k| end_at::<M>(block, k as u32))
@@ -80,7 +83,7 @@ fn ends<M: Mode>(block: &[u8]) -> [Rgb; 4]
 
 // The width of the index of pixel i.
 fn index_width<M: Mode>(partition: Partition, i: usize) -> u32
-    ensures { (result ≡ index_width_by M.mode.index_bits (anchor_of partition.number) i) × (result ≤ 3) }
+    ensures { (result ≡ index_width_by M.mode.index_bits (anchor_of 2 partition.number 1) i) × (result ≤ 3) }
 {
     let anchor = partition.anchor();
     if i == 0 || i == anchor {
@@ -106,7 +109,7 @@ fn indices<M: Mode>(block: &[u8], partition: Partition) -> [u8; 16]
 
 // The fields of a block of a mode.
 pub fn fields<M: Mode>(block: &[u8]) -> Fields
-    ensures { result ≡ fields_of M.mode block.now }
+    ensures { result ≡ rgb_fields (fields_of M.mode block.now) }
 {
     let partition = Partition {
         number: field(block, ends_at::<M>() - 6, 6),

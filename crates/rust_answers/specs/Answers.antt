@@ -21,8 +21,8 @@ abbrev pub Measures : List ℕ → List ℕ → ℕ → Type 0
 Measures px block error = ((measure_of block px).refusal ≡ 0) × ((measure_of block px).error ≡ error)
 
 -- packing a candidate's fields with p-bits and indices
-abbrev pub Packs : Candidate → ℕ → List ℕ → List ℕ → Type 0
-Packs c p indices block =
+abbrev pub PacksRecorded : Candidate → ℕ → List ℕ → List ℕ → Type 0
+PacksRecorded c p indices block =
     let f : Fields = record { partition = c.partition; ends = c.ends; p = p; indices = indices } in
     (pack_of c.mode f part ≡ 0) × (pack_into c.mode f part ≡ block)
 

@@ -4,5 +4,5 @@ use Rattle.lists.specs.Tests.{pick}
 use Rattle.rust_answers.specs.declared.tally.Count.{Count}
 
 -- one answer more, which is the recorded one or differs
-abbrev pub counted_of : Count → Bool → Count
-counted_of n same = record { answers = (n.answers + 1) % 2 ^ 64; differ = pick same n.differ ((n.differ + 1) % 2 ^ 64) }
+abbrev pub counted_answer : Count → Bool → Count
+counted_answer n same = record { answers = (n.answers + 1) % 2 ^ 64; differ = pick same n.differ ((n.differ + 1) % 2 ^ 64) }

@@ -1,6 +1,6 @@
 // The calls, each beside the answer that the Rust gave.
 ghost use Rattle.std.specs.Prelude.{◌↔◌, IsTrue};
-ghost use Rattle.rust_answers.specs.Answers.{Finishes, Measures, Packs, Takes};
+ghost use Rattle.rust_answers.specs.Answers.{Finishes, Measures, PacksRecorded, Takes};
 
 use crate::recording::part;
 use block::{Candidate, Fields};
@@ -41,7 +41,7 @@ pub(crate) fn measures(pixels: &[u8], answer: &Answer) -> bool
 
 // Packing a candidate's fields with p-bits and indices declines nothing, and gives this block.
 pub(crate) fn packs(c: Candidate, p: u8, indices: [u8; 16], packed: &[u8; 16]) -> bool
-    ensures { IsTrue result ↔ Packs c p indices packed.now }
+    ensures { IsTrue result ↔ PacksRecorded c p indices packed.now }
 {
     let ends = c.ends;
     let fields = Fields {

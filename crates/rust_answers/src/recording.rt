@@ -1,6 +1,6 @@
 // The parts of a recording, and the indices in it.
 ghost use Rattle.std.specs.Prelude.{◌≡◌, ◌+◌, ◌<◌, ◌≤◌, length};
-ghost use Rattle.rust_answers.specs.Recording.{index_in, indices_in};
+ghost use Rattle.rust_answers.specs.Recording.{recorded_index, indices_in};
 
 use std::array;
 
@@ -14,7 +14,7 @@ pub(crate) fn part<const N: usize>(bytes: &[u8], at: usize) -> [u8; N]
 // The index of a pixel in eight bytes: of a byte's two the lower half is the earlier.
 fn index(bytes: &[u8; 8], pixel: usize) -> u8
     requires { pixel < 16 }
-    ensures { result ≡ index_in bytes.now pixel }
+    ensures { result ≡ recorded_index bytes.now pixel }
 {
     let both = bytes[pixel / 2];
     if pixel % 2 == 0 { both % 16 } else { both / 16 }

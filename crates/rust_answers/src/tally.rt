@@ -1,6 +1,6 @@
 // Counting answers, and the cells that the candidates lie in: mode 1 or 3, partition, p-bits fixed or free.
 ghost use Rattle.std.specs.Prelude.{◌≡◌, ◌≤◌};
-ghost use Rattle.rust_answers.specs.Counting.{counted_of};
+ghost use Rattle.rust_answers.specs.Counting.{counted_answer};
 
 use std::fmt;
 
@@ -17,7 +17,7 @@ pub(crate) struct Count {
 impl Count {
     // One answer more, which is the Rust's or differs. No run counts to 2 ^ 64.
     pub(crate) fn add(&mut self, same: bool)
-        ensures { self.new ≡ counted_of self.old same }
+        ensures { self.new ≡ counted_answer self.old same }
     {
         self.answers = self.answers.wrapping_add(1);
         if !same {

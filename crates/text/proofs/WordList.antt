@@ -14,38 +14,38 @@ use Rattle.std.specs.List.{prefix_len, slice_get}
 use Rattle.std.proofs.lemmas.Bool.Decides.{nat_tests}
 use Rattle.std.specs.Option.{unwrap_or}
 use Rattle.lists.specs.Tests.{pick}
-use Rattle.text.specs.Words.{words_in, in_word, first_word, word_from, word_of, lengthen, words_of}
+use Rattle.text.specs.Words.{words_in, in_word, first_word, word_from, word_of, lengthen, line_words}
 
 -- a line without a 0 byte has no word
-none_left : (line : List ℕ) → length line ≤ prefix_len in_word line → words_of line ≡ []
+none_left : (line : List ℕ) → length line ≤ prefix_len in_word line → line_words line ≡ []
 none_left [] h = refl
 none_left (b ∷ bs) h = go (eqb b 0) h (none_left bs)
   where
     go : (t : Bool) → suc (length bs) ≤ (if not t then 1 + prefix_len in_word bs else 0) →
-        (length bs ≤ prefix_len in_word bs → words_of bs ≡ []) →
-        pick t ([] ∷ words_of bs) (lengthen b (words_of bs)) ≡ []
+        (length bs ≤ prefix_len in_word bs → line_words bs ≡ []) →
+        pick t ([] ∷ line_words bs) (lengthen b (line_words bs)) ≡ []
     go true l ih = absurd (omega arith)
     go false l ih = rw (ih (omega arith))
 
 -- the word at the front of any other, and those behind it
 first_word_of : (line : List ℕ) → prefix_len in_word line < length line →
-    words_of line ≡ first_word line ∷ words_of (drop (prefix_len in_word line + 1) line)
+    line_words line ≡ first_word line ∷ line_words (drop (prefix_len in_word line + 1) line)
 first_word_of [] h = absurd (omega arith)
 first_word_of (b ∷ bs) h = go (eqb b 0) h (first_word_of bs)
   where
     go : (t : Bool) → (if not t then 1 + prefix_len in_word bs else 0) < suc (length bs) →
-        (prefix_len in_word bs < length bs → words_of bs ≡ first_word bs ∷ words_of (drop (prefix_len in_word bs + 1) bs)) →
-        pick t ([] ∷ words_of bs) (lengthen b (words_of bs))
+        (prefix_len in_word bs < length bs → line_words bs ≡ first_word bs ∷ line_words (drop (prefix_len in_word bs + 1) bs)) →
+        pick t ([] ∷ line_words bs) (lengthen b (line_words bs))
         ≡ take (if not t then 1 + prefix_len in_word bs else 0) (b ∷ bs)
-        ∷ words_of (drop ((if not t then 1 + prefix_len in_word bs else 0) + 1) (b ∷ bs))
+        ∷ line_words (drop ((if not t then 1 + prefix_len in_word bs else 0) + 1) (b ∷ bs))
     go true l ih = refl
     go false l ih = rw (ih (omega arith), one-add, add-one, add-one)
 
 -- as the place of the first 0 byte tells it
-pub words_none : (line : List ℕ) → position (λ b. eqb b 0) line ≡ None → words_of line ≡ []
+pub words_none : (line : List ℕ) → position (λ b. eqb b 0) line ≡ None → line_words line ≡ []
 words_none line e = go (nat_lt (prefix_len in_word line) (length line)) refl e
   where
-    go : (t : Bool) → nat_lt (prefix_len in_word line) (length line) ≡ t → cond t (Some (prefix_len in_word line)) None ≡ None → words_of line ≡ []
+    go : (t : Bool) → nat_lt (prefix_len in_word line) (length line) ≡ t → cond t (Some (prefix_len in_word line)) None ≡ None → line_words line ≡ []
     go true h l = cc
     go false h l = none_left line (grind (arith, nat_tests))
 
@@ -60,7 +60,7 @@ word_ends line n e = go (nat_lt (prefix_len in_word line) (length line)) refl e
 
 -- the words of a part of a line that starts behind the word's 0 byte and ends with the line
 pub words_first : (line : List ℕ) (n : ℕ) → position (λ b. eqb b 0) line ≡ Some n →
-    words_of line ≡ take n line ∷ words_of (take (length line - (n + 1)) (drop (n + 1) line))
+    line_words line ≡ take n line ∷ line_words (take (length line - (n + 1)) (drop (n + 1) line))
 words_first line n e =
     let ends = word_ends line n e in
     let rest : length (drop (n + 1) line) ≤ length line - (n + 1) = omega (arith, length-drop (n + 1) line) in
@@ -68,13 +68,13 @@ words_first line n e =
 
 -- they are fewer
 pub words_fewer : (line : List ℕ) (n : ℕ) → position (λ b. eqb b 0) line ≡ Some n →
-    length (words_of (take (length line - (n + 1)) (drop (n + 1) line))) < length (words_of line)
+    length (line_words (take (length line - (n + 1)) (drop (n + 1) line))) < length (line_words line)
 words_fewer line n e = rw (words_first line n e) (omega arith)
 
 -- their number is that of the 0 bytes
-pub words_counted : (line : List ℕ) → length (words_of line) ≡ words_in line
+pub words_counted : (line : List ℕ) → length (line_words line) ≡ words_in line
 words_counted [] = refl
-words_counted (b ∷ bs) = go (eqb b 0) (words_of bs) (words_counted bs)
+words_counted (b ∷ bs) = go (eqb b 0) (line_words bs) (words_counted bs)
   where
     go : (t : Bool) (ws : List (List ℕ)) → length ws ≡ words_in bs →
         length (pick t ([] ∷ ws) (lengthen b ws)) ≡ pick t (suc (words_in bs)) (words_in bs)
@@ -88,8 +88,8 @@ word_from_by t b bs zero = take (if not t then 1 + prefix_len in_word bs else 0)
 word_from_by t b bs (suc k) = pick t (word_from bs k) (word_from bs (suc k))
 
 -- the one at a place behind a byte
-listed : (b : ℕ) (bs : List ℕ) (t : Bool) (ws : List (List ℕ)) → words_of bs ≡ ws → (k : ℕ) → length ws ≡ words_in bs →
-    ((j : ℕ) → unwrap_or (slice_get (words_of bs) j) [] ≡ pick (leb (words_in bs) j) [] (word_from bs j)) →
+listed : (b : ℕ) (bs : List ℕ) (t : Bool) (ws : List (List ℕ)) → line_words bs ≡ ws → (k : ℕ) → length ws ≡ words_in bs →
+    ((j : ℕ) → unwrap_or (slice_get (line_words bs) j) [] ≡ pick (leb (words_in bs) j) [] (word_from bs j)) →
     unwrap_or (slice_get (pick t ([] ∷ ws) (lengthen b ws)) k) []
     ≡ pick (leb (pick t (suc (words_in bs)) (words_in bs)) k) [] (word_from_by t b bs k)
 listed b bs true ws e zero n ih = rw leb-suc-zero
@@ -102,8 +102,8 @@ listed b bs false (w ∷ ws) e zero n ih =
 listed b bs false (w ∷ ws) e (suc k) n ih = rw e at (ih (suc k))
 
 -- and the one at a place is the word of that number
-pub word_listed : (line : List ℕ) (k : ℕ) → unwrap_or (slice_get (words_of line) k) [] ≡ word_of line k
+pub word_listed : (line : List ℕ) (k : ℕ) → unwrap_or (slice_get (line_words line) k) [] ≡ word_of line k
 unfolding word_of
 word_listed [] k = rw (le-leb 0 k (omega arith))
-word_listed (b ∷ bs) zero = listed b bs (eqb b 0) (words_of bs) refl zero (words_counted bs) (word_listed bs)
-word_listed (b ∷ bs) (suc k) = listed b bs (eqb b 0) (words_of bs) refl (suc k) (words_counted bs) (word_listed bs)
+word_listed (b ∷ bs) zero = listed b bs (eqb b 0) (line_words bs) refl zero (words_counted bs) (word_listed bs)
+word_listed (b ∷ bs) (suc k) = listed b bs (eqb b 0) (line_words bs) refl (suc k) (words_counted bs) (word_listed bs)

@@ -94,7 +94,7 @@ mistake_text OtherMaxval = codes "has a greatest value that is not 255; expected
 mistake_text NoPixels = codes "has no pixels behind its greatest value; expected one white space and then the pixels"
 
 -- what holds of the header of so many bytes
-pub record Sized (header : Header) (bytes : ℕ) : Type 0 where
+pub record SizesRead (header : Header) (bytes : ℕ) : Type 0 where
   pub wide : 1 ≤ header.width
   pub narrow : header.width ≤ 16384
   pub high : 1 ≤ header.height

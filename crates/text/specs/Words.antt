@@ -32,6 +32,6 @@ lengthen b [] = []
 lengthen b (w ∷ ws) = (b ∷ w) ∷ ws
 
 -- the words of a line, in order
-abbrev pub words_of : List ℕ → List (List ℕ)
-words_of [] = []
-words_of (b ∷ bs) = pick (eqb b 0) ([] ∷ words_of bs) (lengthen b (words_of bs))
+abbrev pub line_words : List ℕ → List (List ℕ)
+line_words [] = []
+line_words (b ∷ bs) = pick (eqb b 0) ([] ∷ line_words bs) (lengthen b (line_words bs))

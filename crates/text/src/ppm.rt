@@ -1,7 +1,7 @@
 // The header of a binary PPM picture, Netpbm's P6.
 ghost use Rattle.std.specs.Prelude.{◌≡◌, ◌≤◌, false, length, IfOk, IsTrue, Some};
 ghost use Rattle.text.specs.Ppm.{is_space, in_gap, in_comment, gap_in, small_number, field_in, size_fits};
-ghost use Rattle.text.specs.Ppm.{mistake_text, size_in, pixels_in, starts_p6, header_of, Sized, header_text};
+ghost use Rattle.text.specs.Ppm.{mistake_text, size_in, pixels_in, starts_p6, header_of, SizesRead, header_text};
 
 use crate::decimal::{digits_in, number};
 use crate::line::Line;
@@ -184,7 +184,7 @@ impl Header {
     #[tactic(auto, unfolding(crate::specs::Ppm::header_of))]
     pub fn parse(bytes: &[u8]) -> Result<Header, HeaderError>
         ensures says { result ≡ header_of bytes.now }
-        ensures sized { IfOk result (λ header. Sized header (length bytes.now)) }
+        ensures sized { IfOk result (λ header. SizesRead header (length bytes.now)) }
     {
         if !starts_p6(bytes) {
             return Err(HeaderError::NoName);

@@ -1,7 +1,7 @@
 // The words of a command line: bytes in which a 0 byte ends each word.
 ghost use Rattle.std.specs.Prelude.{◌≡◌, eqb, position};
 ghost use Rattle.std.specs.Iterator.{YieldsFirstRef, item_count};
-ghost use Rattle.text.specs.Words.{words_of};
+ghost use Rattle.text.specs.Words.{line_words};
 
 use std::marker::Model;
 
@@ -14,11 +14,11 @@ pub struct Words<'a> {
 // A clause sees the list of the words that are left.
 impl<'a> Model for Words<'a> {
     ghost use Rattle.std.specs.Prelude.{ℕ, List};
-    ghost use Rattle.text.specs.Words.{words_of};
+    ghost use Rattle.text.specs.Words.{line_words};
 
     ghost Value = { List (List ℕ) };
 
-    ghost view = { λ words. words_of words.rest.now };
+    ghost view = { λ words. line_words words.rest.now };
 }
 
 // The place of the first 0 byte of a line. A function of its own for its contract, by which the proof of `next` knows what a run of
@@ -48,7 +48,7 @@ impl<'a> Iterator for Words<'a> {
 impl<'a> Words<'a> {
     // The words of a line.
     pub fn new(line: &'a [u8]) -> Self
-        ensures { result ≡ words_of line.now }
+        ensures { result ≡ line_words line.now }
     {
         Words { rest: line }
     }

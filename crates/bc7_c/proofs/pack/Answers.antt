@@ -1,17 +1,23 @@
 -- `bc7_c::pack` meets its contract.
 use Prim.Native.Nat.{ℕ}
 use native.Mathlib.Omega.{arith}
-use mathlib.Core.Path.{◌≡◌, sym, ◌∙◌}
+use mathlib.Core.Path.{◌≡◌, sym, ap, subst, ◌∙◌}
 use mathlib.Core.List.{List}
 use lib.ListN.{length}
-use borrow.Author.Tests.{eq-eqb, ne_eqb}
+use borrow.Author.Tests.{eq-eqb}
 use borrow.Author.Rules.{rules}
 use Rattle.refusals.specs.declared.Refusal.TheVariants.{BlockPart}
 use Rattle.refusals.specs.Numbers.{number_of}
-use Rattle.bptc.specs.Mode.{mode1, mode3, mode_numbered}
+use Rattle.bptc.specs.Mode.{Mode, mode1, mode3, mode_numbered}
+use Rattle.bptc.proofs.Modes.{is_first, not_first}
+use Rattle.bptc_block.specs.declared.FieldWords.{FieldWords}
+use Rattle.bptc_block.specs.Fields.{block_fields, Plain}
+use Rattle.bptc_block.specs.Internal.Words.{word_fields}
+use Rattle.bptc_block.specs.Packed.{packed}
+use Rattle.bptc_block.specs.Exchange.{compressed}
 use Rattle.bptc_block.specs.declared.Fields.{Fields}
 use Rattle.bptc_block.specs.Refusal.{check_candidate, check_indices}
-use Rattle.bptc_block.specs.PackCall.{fixed_at, pack_of}
+use Rattle.bptc_block.specs.PackCall.{fixed_at, pack_of, pack_into}
 use Rattle.bptc_block.proofs.PackCall.{pack-block}
 use Rattle.bptc_block.proofs.Answers.{pack_left, pack_part}
 use Rattle.bc7_c.specs.Numbers.{packed_at}
@@ -36,6 +42,21 @@ module _ (c : In_ok-check_pack) where
   taken : Accepted c.args.numbers.mode c.args.numbers.partition c.args.numbers.ends c.args.numbers.p c.args.indices
   taken = accept _ _ _ _ _ c.args.block.now (search rules) ok
 
+-- what is written of a mode: fields in range
+module _ (m : Mode) (c : In_ok-check_pack) (whole : mode_numbered c.args.numbers.mode ≡ m) where
+  -- the words
+  abbrev words : FieldWords
+  words = record { partition = c.args.numbers.partition; ends = c.args.numbers.ends; p = c.args.numbers.p; indexes = c.args.indices }
+
+  narrowed : Plain m (block_fields (word_fields 4 words))
+  narrowed = subst (λ (g : Fields). Plain m (block_fields g)) (sym (taken c).words) (subst (λ (m : Mode). Plain m (block_fields (f c))) whole (taken c).plain)
+
+  block : packed m (compressed m (block_fields (word_fields 4 words))) ≡ pack_into c.args.numbers.mode (f c) c.args.block.now
+  block =
+      ap (λ (g : Fields). packed m (compressed m (block_fields g))) (taken c).words
+      ∙ ap (λ (m : Mode). packed m (compressed m (block_fields (f c)))) (sym whole)
+      ∙ sym (pack-block _ _ _ (ok c))
+
 pub returns-in_default : goal.returns-in_default
 returns-in_default c =
     let e = pack_part _ c.args.block.now c.args.numbers.mode c.in_default.ensures.cases in
@@ -58,22 +79,20 @@ overflow_cast-w-2 c = record { fits = (taken (goal.at.overflow_cast-w-2 c).In_ok
 
 pub write_narrowed-requires : goal.write_narrowed-requires
 write_narrowed-requires c =
-    let t = taken (goal.at.write_narrowed-requires c).In_ok-check_pack in
-    rw t.words (simp c.in-1.is at t.plain)
+    let e = (goal.at.write_narrowed-requires c).In_ok-check_pack in
+    narrowed mode1 e (is_first _ c.in-1.is)
 
 pub write_narrowed-requires-in_default-mode : goal.write_narrowed-requires-in_default-mode
 write_narrowed-requires-in_default-mode c =
-    let t = taken (goal.at.write_narrowed-requires-in_default-mode c).In_ok-check_pack in
-    rw t.words (simp (ne_eqb c.args.numbers.mode 1 (omega arith)) at t.plain)
+    let e = (goal.at.write_narrowed-requires-in_default-mode c).In_ok-check_pack in
+    narrowed mode3 e (not_first _ (λ e. omega arith))
 
 pub returns-in-1 : goal.returns-in-1
 returns-in-1 c =
     let e = (goal.at.returns-in-1 c).In_ok-check_pack in
-    let whole : mode_numbered c.args.numbers.mode ≡ mode1 = rw c.in-1.is in
-    (record { answer = sym (ok e); part = rw (taken e).words at c.write_narrowed.ensures ∙ sym (rw whole at (pack-block _ _ _ (ok e))) })
+    (record { answer = sym (ok e); part = c.write_narrowed.ensures ∙ block mode1 e (is_first _ c.in-1.is) })
 
 pub returns-in_default-mode : goal.returns-in_default-mode
 returns-in_default-mode c =
     let e = (goal.at.returns-in_default-mode c).In_ok-check_pack in
-    let whole : mode_numbered c.args.numbers.mode ≡ mode3 = rw (ne_eqb c.args.numbers.mode 1 (omega arith)) in
-    (record { answer = sym (ok e); part = rw (taken e).words at c.write_narrowed-in_default-mode.ensures ∙ sym (rw whole at (pack-block _ _ _ (ok e))) })
+    (record { answer = sym (ok e); part = c.write_narrowed-in_default-mode.ensures ∙ block mode3 e (not_first _ (λ e. omega arith)) })

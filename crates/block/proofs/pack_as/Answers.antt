@@ -17,7 +17,7 @@ use Rattle.block.proofs.pack_as.Goals as goal
 
 -- the checks decline nothing
 none : (g : Over) (c : In_ok-check_indices g) → 0 ≡ pack_of g.M.Mode.mode.number c.args.fields c.args.block.now
-none g c = pack_stored c.args.fields c.args.block.now (search rules) g.M.Mode.mode g.M.Mode.is_mode c.in_ok-check_stored.ensures c.in_ok-check_indices.ensures
+none g c = pack_stored c.args.fields c.args.block.now (search rules) g.M.Mode.mode g.M.Mode.is_mode (search rules) c.in_ok-check_stored.ensures c.in_ok-check_indices.ensures
 
 pub returns-in_err-check_stored : goal.returns-in_err-check_stored
 returns-in_err-check_stored g c =
@@ -27,7 +27,7 @@ returns-in_err-check_stored g c =
     let r = c.in_err-check_stored.field-0.0 in
     let rest : ℕ = unless (list_all (λ (i : ℕ). leb i (largest m.mode)) f.indices) 7 0 in
     let e : number_of r ≡ pack_of m.mode.number f part =
-    rw (ne_eqb (number_of r) 0 (some_number r)) at (pack_stored f part (search rules) m.mode m.is_mode {indices = rest} c.in_err-check_stored.ensures (λ i. rest)) in
+    rw (ne_eqb (number_of r) 0 (some_number r)) at (pack_stored f part (search rules) m.mode m.is_mode (search rules) {indices = rest} c.in_err-check_stored.ensures (λ i. rest)) in
     (record { answer = search (rules, e); part = pack_left r m.mode.number f part e })
 
 pub returns-in_err-check_indices : goal.returns-in_err-check_indices
@@ -37,7 +37,7 @@ returns-in_err-check_indices g c =
     let part = c.args.block.now in
     let r = c.in_err-check_indices.field-0.0 in
     let e : number_of r ≡ pack_of m.mode.number f part =
-    pack_stored f part (search rules) m.mode m.is_mode c.in_ok-check_stored.ensures c.in_err-check_indices.ensures in
+    pack_stored f part (search rules) m.mode m.is_mode (search rules) c.in_ok-check_stored.ensures c.in_err-check_indices.ensures in
     (record { answer = search (rules, e); part = pack_left r m.mode.number f part e })
 
 pub write-requires : goal.write-requires

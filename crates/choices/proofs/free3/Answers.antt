@@ -3,11 +3,11 @@ use Rattle.std.proofs.Common.{◌≡◌, ℕ, ◌+◌, ◌-◌, ◌%◌, ◌^◌
 use Rattle.lists.specs.Rows.{up_from, over_pixels}
 use Rattle.bptc.specs.declared.Rgb.{Rgb}
 use Rattle.bptc.specs.Mode.{mode3}
-use Rattle.bptc.specs.Partition.{mask_of}
-use Rattle.bptc.specs.Colour.{colours_of}
-use Rattle.bptc_block.proofs.Modes.{lawful}
+use Rattle.bptc.specs.Internal.Masks.{mask_of}
+use Rattle.bptc.specs.Internal.Colour.{colours_of}
+use Rattle.bptc.proofs.Modes.{is_mode3}
 use Rattle.lists.proofs.Rows.{get_or-each, each_same}
-use Rattle.closest.specs.Found.{indexes_in, raised_in, over_second}
+use Rattle.closest.specs.Found.{indexes_in, biased_in, over_second}
 use Rattle.choices.specs.Choices.{column_bits}
 use Rattle.bptc.proofs.PartitionRule.{entry_ones}
 use Rattle.choices.proofs.Subsets.{over-all}
@@ -28,20 +28,20 @@ pixels c = colours_of c.args.query.now.pixels.now
 
 -- the sum of a subset in a column
 abbrev sum_of : After-choices-s → ℕ → ℕ → ℕ
-sum_of c = column_sum (part c) (ends c) (pixels c)
+sum_of c = column_sum (part c) (ends c) c.args.query.now.pixels.now c.args.query.now.long
 
 -- the sums of all pixels are those of both subsets
 all_are : (c : After-choices-s) → c.choices-s.result.all ≡ map (λ (k : ℕ). sum_of c 0 k + sum_of c 1 k) (up_from 0 4)
 all_are c =
     c.choices-s.ensures.all
-    ∙ ap (λ (mask : ℕ). map (λ (k : ℕ). over_pixels (raised_in mode3 (ends c) (column_bits k) mask (pixels c))) (up_from 0 4)) (c.from.ensures ∙ c.mask.ensures)
+    ∙ ap (λ (mask : ℕ). map (λ (k : ℕ). over_pixels (biased_in mode3 (ends c) (column_bits k) mask (pixels c))) (up_from 0 4)) (c.from.ensures ∙ c.mask.ensures)
     ∙ each_same 0 _ _ 4 (λ k h. over-all mode3 (part c) (ends c) (pixels c) (column_bits k))
 
 -- those of subset 1
 ones_are : (c : After-choices-s) → c.choices-s.result.second ≡ map (sum_of c 1) (up_from 0 4)
 ones_are c =
     c.choices-s.ensures.second
-    ∙ ap (λ (mask : ℕ). map (λ (k : ℕ). over_second mask (raised_in mode3 (ends c) (column_bits k) mask (pixels c))) (up_from 0 4)) (c.from.ensures ∙ c.mask.ensures)
+    ∙ ap (λ (mask : ℕ). map (λ (k : ℕ). over_second mask (biased_in mode3 (ends c) (column_bits k) mask (pixels c))) (up_from 0 4)) (c.from.ensures ∙ c.mask.ensures)
 
 -- the words are the columns' indices
 words_are : (c : After-choices-s) → c.choices-s.result.words ≡ map (λ (k : ℕ). indexes_in mode3 (ends c) (column_bits k) (mask_of (part c)) (pixels c)) (up_from 0 4)
@@ -67,7 +67,7 @@ sums_small : (c : After-choices-s) → (i j : ℕ) → i < 4 → j < 4 →
     get_or ((get_or x 0 0 - get_or y 0 0) ∷ ((get_or x 1 0 - get_or y 1 0) ∷ ((get_or x 2 0 - get_or y 2 0) ∷ ((get_or x 3 0 - get_or y 3 0) ∷ [])))) i 0 + get_or y j 0 < 2 ^ 32
 sums_small c i j h l =
     let most : (k : ℕ) → sum_of c 0 k + sum_of c 1 k ≤ 6242400 =
-    λ k. omega (arith, all_small mode3 (lawful 3) (part c) (ends c) c.args.query.now.ends.within c.args.query.now.pixels.now c.args.query.now.bytes (column_bits k) (mask_of (part c)), over-all mode3 (part c) (ends c) (pixels c) (column_bits k)) in
+    λ k. omega (arith, all_small mode3 is_mode3 (part c) (ends c) c.args.query.now.ends.within c.args.query.now.pixels.now c.args.query.now.bytes (column_bits k) (mask_of (part c)), over-all mode3 (part c) (ends c) (pixels c) (column_bits k)) in
     rw (zeros_are c, ones_are c, get_or-each 0 (sum_of c 0) 4 i h, get_or-each 0 (sum_of c 1) 4 j l) (omega (arith, most i, most j))
 
 pub overflow_sub-all : goal.overflow_sub-all
@@ -96,4 +96,4 @@ returns c =
     let g = c.best4-g.ensures in
     let ones = ap (λ (n : ℕ). n % 4294967296) c.entry2.ensures ∙ entry_ones 2 a.query.now.partition.number in
     rw (c.mix.ensures, c.from-first.ensures, c.from-second.ensures, ones, c.bits_of.ensures.0, c.bits_of-2.ensures.0)
-    (free3-picked a.query.now.partition.number a.query.now.ends.stored (colours_of a.query.now.pixels.now) _ _ _ (zeros_are k) (ones_are k) (words_are k) _ _ _ _ f.at f.sum f.four g.at g.sum g.four)
+    (free3-picked a.query.now.partition.number a.query.now.ends.stored a.query.now.pixels.now a.query.now.long _ _ _ (zeros_are k) (ones_are k) (words_are k) _ _ _ _ f.at f.sum f.four g.at g.sum g.four)

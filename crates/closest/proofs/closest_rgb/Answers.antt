@@ -1,6 +1,6 @@
 -- `closest::closest_rgb` meets its contract: the least keys tell the nearest indices and the distances.
 use Rattle.std.proofs.Common.{ℕ, ◌^◌, get_or, ◌∙◌}
-use Rattle.bptc.specs.Colour.{colours_of}
+use Rattle.bptc.specs.Internal.Colour.{colours_of}
 use Rattle.bptc.proofs.Modes.{few_colours}
 use Rattle.closest.proofs.Telling.{found_is, keys_tell, index_digit}
 use Rattle.closest.proofs.closest_rgb.Goals as goal

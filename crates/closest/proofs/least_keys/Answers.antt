@@ -1,8 +1,8 @@
 -- `closest::least_keys` meets its contract: the least of each pixel's columns is its least key.
 use Rattle.std.proofs.Common.{◌≡◌, ℕ, ◌%◌, ◌*◌, map, get_or, ap, ◌∙◌}
 use Rattle.lists.specs.Rows.{up_from}
-use Rattle.bptc.specs.Palette.{coloured, palettes}
-use Rattle.bptc.specs.Pixels.{pixel_of}
+use Rattle.bptc.specs.Internal.Palette.{coloured, palettes}
+use Rattle.bptc.specs.Internal.Pixels.{pixel_of}
 use Rattle.bptc.proofs.Modes.{few_colours, shades_of}
 use Rattle.keys.specs.Keys.{pixel_key}
 use Rattle.key_numbers.specs.Numbers.{flat_rows, numbers_of}

@@ -6,31 +6,29 @@ use mathlib.Core.List.{List}
 use Rattle.lists.specs.Bytes.{Bytes}
 use Rattle.bptc.specs.declared.Rgb.{Rgb}
 use Rattle.bptc.specs.Mode.{Mode, IsMode}
-use Rattle.bptc.specs.Shown.{Stored}
-use Rattle.bptc.specs.Colour.{colours_of}
-use Rattle.bptc.specs.Closest.{closest_in}
+use Rattle.bptc.specs.Internal.Shown.{Stored}
+use Rattle.bptc.specs.Internal.Colour.{colours_of}
+use Rattle.bptc.specs.Internal.Closest.{closest_in}
 use Rattle.bptc_block.specs.declared.PBits.{PBits}
-use Rattle.bptc_block.specs.Finish.{bits_in}
-use Rattle.bptc_block.proofs.Modes.{lawful_of}
 use Rattle.closest.specs.declared.pick.Picked.{Picked}
-use Rattle.closest.specs.Pick.{raised_all, picked_for}
-use Rattle.finishing.specs.Indices.{nearest_for}
+use Rattle.closest.specs.Pick.{bias_all, bits_for, picked_at, picked_for}
+use Rattle.finishing.specs.Indices.{nearest_at}
 use Rattle.finishing.proofs.Kept.{sum_small}
 use Rattle.finishing.proofs.nearest.Goals as goal
 
-module _ (m : Mode) (part : ℕ) (ends : List Rgb) (p : PBits) (px : List ℕ) (got : Picked) (is : got ≡ picked_for m part ends p (colours_of px)) where
+module _ (m : Mode) (part : ℕ) (ends : List Rgb) (p : PBits) (px : List ℕ) (got : Picked) (is : got ≡ picked_for m part ends p px) where
   -- the error of subset s
   abbrev error_of : ℕ → ℕ
-  error_of s = (closest_in m part ends (bits_in m part ends p (colours_of px) s) s (colours_of px)).error
+  error_of s = (closest_in m part ends (bits_for m part ends p px) s (colours_of px)).error
 
   -- what is got is the errors and what the pixels are raised by
-  sum_is : got.sum ≡ error_of 0 + error_of 1 + raised_all (colours_of px)
-  unfolding picked_for
+  sum_is : got.sum ≡ error_of 0 + error_of 1 + bias_all (colours_of px)
+  unfolding picked_at
   sum_is = ap (λ (r : Picked). r.sum) is
 
   -- and no more than this
-  sum_most : IsMode m → Stored m ends → Bytes px → got.sum ≤ 12484800
-  sum_most known stored bytes = rw is (sum_small m (lawful_of m known) part ends stored px bytes p)
+  sum_most : IsMode m → Stored m ends → Bytes px → got.sum ≤ 6242400
+  sum_most known stored bytes = rw is (sum_small m known part ends px (bits_for m part ends p px) stored bytes)
 
 pub overflow_add-result : goal.overflow_add-result
 overflow_add-result g c =
@@ -45,7 +43,7 @@ overflow_sub-result g c =
     omega (arith, sum_is g.M.Mode.mode q.partition.number q.ends.stored p q.pixels.now c.picked-got.result c.picked-got.ensures, c.lacking.ensures)
 
 pub returns : goal.returns
-unfolding nearest_for picked_for
+unfolding nearest_at picked_at
 returns g c =
     let p = c.args.p in
     let q = c.args.query.now in

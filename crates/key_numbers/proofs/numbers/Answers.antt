@@ -8,7 +8,7 @@ use Rattle.std.proofs.lemmas.List.{replicate-append-replicate}
 use Rattle.lists.specs.Rows.{written}
 use Rattle.lists.proofs.Rows.{written_all}
 use Rattle.lists.proofs.Writing.{quarters_next}
-use Rattle.bptc.specs.Pixels.{pixel_of}
+use Rattle.bptc.specs.Internal.Pixels.{pixel_of}
 use Rattle.key_numbers.specs.Numbers.{numbers_of}
 use Rattle.key_numbers.proofs.numbers.Goals as goal
 

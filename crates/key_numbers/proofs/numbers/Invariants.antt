@@ -4,7 +4,7 @@ use mathlib.Core.Path.{◌≡◌}
 use mathlib.Core.List.{◌++◌}
 use lib.ListN.{get_or, replicate}
 use Rattle.lists.specs.Rows.{written}
-use Rattle.bptc.specs.Pixels.{pixel_of}
+use Rattle.bptc.specs.Internal.Pixels.{pixel_of}
 use Rattle.keys.specs.Keys.{own_of, step_of}
 use Rattle.key_numbers.proofs.numbers.Given as goal
 

@@ -4,11 +4,11 @@ use Prim.Native.Nat.{◌≤◌}
 use mathlib.Core.Path.{sym}
 use lib.ListN.{get_or-eq_default}
 use Rattle.lists.proofs.Tables.{past_arms}
-use Rattle.bptc.specs.Partition.{masks, mask_of}
+use Rattle.bptc.specs.Partition.{masks, table, digits_of}
 use Rattle.partitions.proofs.mask.Goals as goal
 
 pub returns-in_default : goal.returns-in_default
-unfolding masks mask_of
+unfolding table masks digits_of
 returns-in_default c =
     let h : 64 ≤ c.args.partition = past_arms _ 64 (search rules) in
     sym (get_or-eq_default masks 0 h)

@@ -1,5 +1,5 @@
 -- `bc7_c::parts::head` meets its contract.
-use Rattle.bptc.specs.Colour.{bytes_of}
+use Rattle.bptc.specs.Internal.Colour.{bytes_of}
 use Rattle.bptc_block.specs.Answers.{reading_of}
 use Rattle.bc7_c.proofs.PartBytes.{head_listed}
 use borrow.Author.Rules.{rules}

@@ -8,8 +8,8 @@ use lib.ListN.{length}
 use borrow.Author.Rules.{rules}
 use Rattle.std.specs.List.{swap}
 use Rattle.lists.specs.Tests.{pick}
-use Rattle.bptc.specs.Pixels.{pixel_of}
-use Rattle.bptc_block.specs.Exchange.{swapped_ends}
+use Rattle.bptc.specs.Internal.Pixels.{pixel_of}
+use Rattle.bptc_block.specs.Internal.Swaps.{swapped_ends}
 use Rattle.bits.proofs.writing.swapped.Goals.{then-swap0, else-swap0}
 use Rattle.bits.proofs.writing.swapped.Goals as goal
 

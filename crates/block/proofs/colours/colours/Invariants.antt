@@ -4,9 +4,9 @@ use mathlib.Core.Path.{◌≡◌}
 use lib.ListN.{get_or, replicate}
 use Rattle.lists.specs.Rows.{written}
 use Rattle.lists.specs.Digits.{bit}
-use Rattle.bptc.specs.Colour.{black}
-use Rattle.bptc.specs.Pixels.{pixel_of}
-use Rattle.bptc.specs.Palette.{word_at}
+use Rattle.bptc.specs.Internal.Colour.{black}
+use Rattle.bptc.specs.Internal.Pixels.{pixel_of}
+use Rattle.bptc.specs.Internal.Palette.{word_at}
 use Rattle.block.proofs.colours.colours.Given as goal
 
 abbrev pub invariant-loop-i : goal.invariant-loop-i

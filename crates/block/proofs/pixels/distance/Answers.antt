@@ -6,7 +6,7 @@ use lib.ListN.{get_or}
 use borrow.Author.Rules.{rules}
 use Rattle.lists.specs.Rows.{over_pixels}
 use Rattle.lists.proofs.Sums.{sum_to-suc}
-use Rattle.bptc.specs.Colour.{black, colours_of, dist_sq}
+use Rattle.bptc.specs.Internal.Colour.{black, colours_of, dist_sq}
 use Rattle.block.proofs.pixels.distance.Goals as goal
 
 pub loop-i-init : goal.loop-i-init

@@ -3,7 +3,7 @@ use Prim.Native.Nat.{ℕ, ◌*◌, ◌≤◌}
 use mathlib.Core.Path.{◌≡◌}
 use lib.ListN.{get_or}
 use Rattle.lists.specs.Rows.{sum_to}
-use Rattle.bptc.specs.Colour.{black, colours_of, dist_sq}
+use Rattle.bptc.specs.Internal.Colour.{black, colours_of, dist_sq}
 use Rattle.block.proofs.pixels.distance.Given as goal
 
 abbrev pub invariant-loop-i : goal.invariant-loop-i

@@ -1,7 +1,7 @@
 -- `corners::Planes::of` meets its contract. The invariant: the channels of the first i pixels are written.
 use Rattle.std.proofs.Common.{ℕ, ◌≡◌, get_or, replicate}
 use Rattle.lists.specs.Rows.{written}
-use Rattle.bptc.specs.Colour.{black, colours_of}
+use Rattle.bptc.specs.Internal.Colour.{black, colours_of}
 use Rattle.corners.proofs.Planes.of.Given as goal
 
 abbrev pub invariant-loop-i : goal.invariant-loop-i

@@ -1,23 +1,14 @@
 -- `finishing::pick::fixed` meets its contract: the least keys tell the indices and the sum.
-use native.Mathlib.Omega.{arith}
 use Prim.Native.Nat.{ℕ, ◌^◌}
 use mathlib.Core.Path.{◌≡◌, ap, ◌∙◌}
 use lib.ListN.{get_or}
-use Rattle.bptc.specs.Mode.{Mode, IsMode}
-use Rattle.bptc.specs.Partition.{mask_of}
-use Rattle.bptc.specs.Colour.{colours_of}
-use Rattle.bptc.proofs.Modes.{by_mode, few_colours}
-use Rattle.bptc_block.specs.Finish.{joined_bits}
-use Rattle.bptc_block.proofs.Modes.{lawful_of}
+use Rattle.bptc.specs.Internal.Masks.{mask_of}
+use Rattle.bptc.specs.Internal.Colour.{colours_of}
+use Rattle.bptc.proofs.Modes.{few_colours}
 use Rattle.closest.specs.Found.{least_keys}
 use Rattle.closest.proofs.Telling.{tell_indexes, tell_all, keys_tell, index_digit}
-use Rattle.finishing.proofs.Kept.{fixed-picked}
+use Rattle.finishing.proofs.Kept.{picked_sum}
 use Rattle.finishing.proofs.pick.fixed.Goals as goal
-
--- both subsets have the same p-bits
-joined-same : (m : Mode) → IsMode m → (p : ℕ) → joined_bits m p p ≡ p
-unfolding joined_bits
-joined-same = by_mode (λ (m : Mode). (p : ℕ) → joined_bits m p p ≡ p) (λ p. omega arith) (λ p. omega arith)
 
 pub returns : goal.returns
 returns g c =
@@ -34,4 +25,4 @@ returns g c =
     let w : c.INDEX_BITS.result ≡ m.index_bits = c.INDEX_BITS.ensures ∙ g.M.Mode.index_bits_are in
     let indexes = rw w at c.word.ensures ∙ tell_indexes m few ends p mask cs (λ (i : ℕ). get_or best.result i 0) told (2 ^ m.index_bits) (index_digit m known) in
     let sum = c.sum.ensures ∙ tell_all m few ends p mask cs (λ (i : ℕ). get_or best.result i 0) told in
-    (λ t. record { indexes = indexes t; sum = sum t; p = p }) ∙ fixed-picked m (lawful_of m known) part ends cs p (joined-same m known p)
+    (λ t. record { indexes = indexes t; sum = sum t; p = p }) ∙ picked_sum m known part ends c.args.query.now.pixels.now p

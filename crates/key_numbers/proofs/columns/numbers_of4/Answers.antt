@@ -4,7 +4,7 @@ use mathlib.Core.Path.{ap, ap₂, ◌∙◌}
 use mathlib.Core.List.{List, map}
 use lib.ListN.{get_or}
 use Rattle.lists.specs.Rows.{up_from}
-use Rattle.bptc.specs.Pixels.{pixel_of}
+use Rattle.bptc.specs.Internal.Pixels.{pixel_of}
 use Rattle.key_numbers.specs.Numbers.{joined_rows, flat_columns, numbers_of}
 use Rattle.key_numbers.proofs.columns.numbers_of4.Goals as goal
 

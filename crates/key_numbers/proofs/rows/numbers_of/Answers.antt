@@ -1,6 +1,6 @@
 -- `key_numbers::rows::numbers_of` meets its contract.
 use Rattle.std.proofs.Common.{ℕ, ◌/◌, ◌%◌, List, get_or, ap, ◌∙◌, arith}
-use Rattle.bptc.specs.Pixels.{pixel_of}
+use Rattle.bptc.specs.Internal.Pixels.{pixel_of}
 use Rattle.key_numbers.specs.Numbers.{numbers_of}
 use Rattle.key_numbers.proofs.Made.{numbers_indexed}
 use Rattle.key_numbers.proofs.rows.numbers_of.Goals as goal

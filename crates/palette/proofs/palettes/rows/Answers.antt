@@ -1,18 +1,17 @@
 -- `palette::palettes::rows` meets its contract. The invariant: the first k colours of each row are written.
 use Prim.Native.Nat.{ℕ}
 use native.Mathlib.Omega.{arith}
-use mathlib.Core.Path.{◌≡◌, refl, sym, ap₂, ◌∙◌}
+use mathlib.Core.Path.{◌≡◌, sym, ap₂, ◌∙◌}
 use mathlib.Core.List.{List, [], ◌∷◌, map}
 use lib.ListN.{get_or, replicate}
 use borrow.Author.Rules.{rules}
-use Rattle.lists.specs.Rows.{written}
 use Rattle.lists.proofs.Rows.{written_next}
 use Rattle.lists.proofs.Writing.{map-written}
 use Rattle.bptc.specs.declared.Rgb.{Rgb}
 use Rattle.bptc.specs.declared.Colour.{Colour}
-use Rattle.bptc.specs.Colour.{black, both}
-use Rattle.bptc.specs.Pixels.{pixel_word}
-use Rattle.bptc.specs.Palette.{blend, blended_row, blended_rows, colour, coloured}
+use Rattle.bptc.specs.Internal.Colour.{black, both}
+use Rattle.bptc.specs.Internal.Pixels.{pixel_word}
+use Rattle.bptc.specs.Internal.Palette.{blend, blended_row, blended_rows, colour, coloured}
 use Rattle.palette.proofs.palettes.rows.Invariants.{row_to}
 use Rattle.palette.proofs.palettes.rows.Goals as goal
 

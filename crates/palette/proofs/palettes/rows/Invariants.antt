@@ -6,8 +6,8 @@ use lib.ListN.{get_or, replicate}
 use Rattle.lists.specs.Rows.{written}
 use Rattle.bptc.specs.declared.Rgb.{Rgb}
 use Rattle.bptc.specs.declared.Colour.{Colour}
-use Rattle.bptc.specs.Colour.{both}
-use Rattle.bptc.specs.Palette.{blend, colour}
+use Rattle.bptc.specs.Internal.Colour.{both}
+use Rattle.bptc.specs.Internal.Palette.{blend, colour}
 use Rattle.palette.proofs.palettes.rows.Given as goal
 
 -- the first k colours between two, and black after them

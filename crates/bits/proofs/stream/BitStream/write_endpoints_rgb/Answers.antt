@@ -1,6 +1,6 @@
 -- `bits::stream::BitStream::write_endpoints_rgb` meets its contract.
 use borrow.Author.Rules.{rules}
-use Rattle.bptc_block.proofs.Widths.{channel_steps}
+use Rattle.bptc_block.proofs.Front.{channel_steps}
 use Rattle.bits.proofs.stream.BitStream.write_endpoints_rgb.Goals as goal
 
 pub returns-clause-same : goal.returns-clause-same

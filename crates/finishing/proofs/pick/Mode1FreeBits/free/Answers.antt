@@ -5,8 +5,8 @@ use mathlib.Core.Path.{◌≡◌, ap, ◌∙◌}
 use mathlib.Core.List.{List}
 use Rattle.bptc.specs.declared.Rgb.{Rgb}
 use Rattle.bptc.specs.Mode.{mode1}
-use Rattle.bptc.specs.Partition.{mask_of}
-use Rattle.bptc.specs.Colour.{colours_of}
+use Rattle.bptc.specs.Internal.Masks.{mask_of}
+use Rattle.bptc.specs.Internal.Colour.{colours_of}
 use Rattle.bptc.proofs.PartitionRule.{entry_ones}
 use Rattle.closest.specs.Found.{found_at}
 use Rattle.finishing.proofs.Kept.{sums1, free1-picked}
@@ -21,16 +21,16 @@ module _ (c : After-closest_rgb-b) where
   abbrev ends : List Rgb
   ends = c.args.query.now.ends.stored
 
-  abbrev pixels : List Rgb
-  pixels = colours_of c.args.query.now.pixels.now
+  abbrev pixels : List ℕ
+  pixels = c.args.query.now.pixels.now
 
   -- what is found at 0
-  first : c.closest_rgb-a.result ≡ found_at mode1 ends 0 (mask_of part) pixels
-  first = c.closest_rgb-a.ensures ∙ ap (λ (n : ℕ). found_at mode1 ends 0 n pixels) (c.from-m.ensures ∙ c.mask.ensures)
+  first : c.closest_rgb-a.result ≡ found_at mode1 ends 0 (mask_of part) (colours_of pixels)
+  first = c.closest_rgb-a.ensures ∙ ap (λ (n : ℕ). found_at mode1 ends 0 n (colours_of pixels)) (c.from-m.ensures ∙ c.mask.ensures)
 
   -- and at 3
-  next : c.closest_rgb-b.result ≡ found_at mode1 ends 3 (mask_of part) pixels
-  next = c.closest_rgb-b.ensures ∙ ap (λ (n : ℕ). found_at mode1 ends 3 n pixels) (c.from-m.ensures ∙ c.mask.ensures)
+  next : c.closest_rgb-b.result ≡ found_at mode1 ends 3 (mask_of part) (colours_of pixels)
+  next = c.closest_rgb-b.ensures ∙ ap (λ (n : ℕ). found_at mode1 ends 3 n (colours_of pixels)) (c.from-m.ensures ∙ c.mask.ensures)
 
   -- subset 1 has no more than all
   less : (c.closest_rgb-a.result.second ≤ c.closest_rgb-a.result.all) × (c.closest_rgb-b.result.second ≤ c.closest_rgb-b.result.all)
@@ -58,4 +58,4 @@ returns c =
       c.either-3.ensures,
       c.either-4.ensures,
     )
-    (free1-picked (part k) (ends k) (pixels k) _ _ (first k) (next k))
+    (free1-picked (part k) (ends k) (pixels k) _ _ (first k) (next k) c.args.query.now.long)

@@ -2,7 +2,7 @@
 use native.Mathlib.Omega.{arith}
 use Prim.Native.Nat.{◌+◌, ◌-◌, ◌*◌, ◌/◌, ◌%◌, ◌^◌, ◌<◌}
 use mathlib.Core.Path.{◌≡◌}
-use Rattle.bptc.specs.Shown.{p_shown}
+use Rattle.bptc.specs.Internal.Shown.{p_shown}
 use Rattle.bptc.proofs.ShownBytes.{p-shown, p-shown-byte}
 use Rattle.palette.proofs.colour.Width.promote.Goals.{After-from-2}
 use Rattle.palette.proofs.colour.Width.promote.Goals as goal

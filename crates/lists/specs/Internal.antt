@@ -1,0 +1,3 @@
+-- Definitions that no demand reaches.
+pub mod Fields
+pub mod Ones
