@@ -25,14 +25,14 @@ use Rattle.bptc_block.specs.Packed.{mode_of, fields_of}
 use Rattle.bptc_block.specs.Chapter.{colour_at, colours, apart_at, apart, block_apart, distance}
 use Rattle.bptc_block.specs.ReadCall.{read_refusal, read_of, read_into}
 use Rattle.bptc_block.specs.MeasureCall.{measure_of}
-use Rattle.bptc_block.specs.RoundTrip.{pixels_apart, MeasuredSum, SameColours, MeasuredZero, MeasuredAsRead}
+use Rattle.bptc_block.specs.RoundTrip.{plain_pixel, pixels_apart, MeasuredSum, SameColours, MeasuredZero, MeasuredAsRead}
 use Rattle.bptc_block.proofs.Modes.{Lawful, lawful, subset-below}
 use Rattle.bptc_block.proofs.OwnBits.{own_lt}
 use Rattle.bptc_block.proofs.Widths.{plain_of}
 use Rattle.bptc_block.proofs.Packed.{well_formed}
 use Rattle.bptc_block.proofs.Refusals.{Known}
 use Rattle.bptc_block.proofs.ReadCall.{readable, read_number, read_leaves, read-pixels, read_again, measure-answer, measure-declined}
-use Rattle.bptc_block.proofs.RoundTrip.{block_says, three_channels, colour_opaque, shown_pixel}
+use Rattle.bptc_block.proofs.RoundTrip.{plain_same, block_says, three_channels, colour_opaque, shown_pixel}
 
 -- the distance of fields from 48 bytes, by sixteen colours of three channels that are theirs
 pub apart-colours : (m : Mode) (f : BlockFields) (px : List ℕ) (cs : List Rgb) → length px ≡ 48 → length cs ≡ 16 → map opaque cs ≡ colours m f →
@@ -81,13 +81,13 @@ module _ (block px : List ℕ) where
   unfolding block_apart apart apart_at pixels_of
   apart-zero e i h =
       let at : get_or (pixels_of 3 px) i clear ≡ pixel_in 3 px i = get_or-each clear (pixel_in 3 px) 16 i h in
-      squared_zero (pixel_in 3 px i) (colour_at m f i) (sym (alpha i h)) (ap (λ (c : Rgba). squared_distance c (colour_at m f i)) (sym at) ∙ pixels-zero _ e i h)
+      plain_same px i ∙ squared_zero (pixel_in 3 px i) (colour_at m f i) (sym (alpha i h)) (ap (λ (c : Rgba). squared_distance c (colour_at m f i)) (sym at) ∙ pixels-zero _ e i h)
 
   zero-apart : SameColours (mode_of block) block px → distance px block ≡ 0
   unfolding block_apart apart apart_at pixels_of
   zero-apart same =
       pixels-none _
-      (λ i h. ap (λ (c : Rgba). squared_distance c (colour_at m f i)) (get_or-each clear (pixel_in 3 px) 16 i h ∙ same i h) ∙ squared_self _)
+      (λ i h. ap (λ (c : Rgba). squared_distance c (colour_at m f i)) (get_or-each clear (pixel_in 3 px) 16 i h ∙ sym (plain_same px i) ∙ same i h) ∙ squared_self _)
 
 -- the call
 pub measured-zero : MeasuredZero
@@ -99,11 +99,12 @@ measured-zero n block px h pixels =
 -- the pixels that reading gives have the block's colours
 read_same : (block px : List ℕ) → (read_of block px).refusal ≡ 0 → SameColours (mode_of block) block (read_into block px)
 read_same block px ok i h =
-    rw (read-pixels block px ok)
+    plain_same (read_into block px) i
+    ∙ rw (read-pixels block px ok)
     (shown_pixel (m block px) (lawful (mode_of block)) (three_channels (mode_of block)) (f block px) (plain block px) i h)
 
 -- the distance of two pixels, by their bytes
-apart-bytes : (px other : List ℕ) (i : ℕ) → squared_distance (pixel_in 3 px i) (pixel_in 3 other i) ≡ pixels_apart px other i
+apart-bytes : (px other : List ℕ) (i : ℕ) → squared_distance (pixel_in 3 px i) (plain_pixel other i) ≡ pixels_apart px other i
 unfolding squared_distance sq_diff
 apart-bytes px other i = let e : i * 3 + 0 ≡ i * 3 = omega arith in rw e refl
 

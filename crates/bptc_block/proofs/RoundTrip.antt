@@ -1,5 +1,5 @@
 -- The round trips: reading after packing, and packing after reading.
-use Prim.Native.Nat.{ℕ, suc, ◌≤◌, ◌<◌}
+use Prim.Native.Nat.{ℕ, suc, ◌+◌, ◌*◌, ◌≤◌, ◌<◌}
 use native.Mathlib.Numerals.{add-one}
 use native.Mathlib.Omega.{arith}
 use mathlib.Core.Path.{◌≡◌, refl, sym, ap, ap₂, ◌∙◌, subst}
@@ -26,7 +26,7 @@ use Rattle.bptc_block.specs.PackCall.{fixed_at, pack_of, pack_into}
 use Rattle.bptc_block.specs.Answers.{reading_of}
 use Rattle.bptc_block.specs.ReadCall.{read_of, read_into}
 use Rattle.bptc_block.specs.Limits.{Limits, InRange}
-use Rattle.bptc_block.specs.RoundTrip.{Block, PackedAsRead, ReadAsPacked}
+use Rattle.bptc_block.specs.RoundTrip.{Block, plain_pixel, PackedAsRead, ReadAsPacked}
 use Rattle.bptc_block.proofs.Widths.{plain_of}
 use Rattle.bptc_block.proofs.Packed.{packed-length, well_formed}
 use Rattle.bptc_block.proofs.Modes.{Lawful, lawful, lawful_of}
@@ -83,6 +83,10 @@ unfolding colour_at
 colour_opaque m law three f plain i h j past l =
     let s : ℕ = subset_in m f.partition i in
     palette_alpha m law.shades (end_of f.ends s 0) (end_of f.ends s 1) (own m f.p s) (get_or f.indices i 0) j (omega (arith, plain.indices i h)) (rw three past) l
+
+-- a pixel by the places of its bytes
+pub plain_same : (px : List ℕ) (i : ℕ) → plain_pixel px i ≡ pixel_in 3 px i
+plain_same px i = let e : i * 3 + 0 ≡ i * 3 = omega arith in rw e refl
 
 -- so that it is again in the bytes of all
 pub shown_pixel : (m : Mode) → Lawful m → m.channels ≡ 3 → (f : BlockFields) → Plain m f → (i : ℕ) → i < 16 → pixel_in 3 (pixel_bytes 3 (colours m f)) i ≡ colour_at m f i
@@ -179,7 +183,7 @@ packed-read n block px part h pixels sixteen =
     record {
       fields = fields n block px part h pixels sixteen;
       long = read_length block px ∙ pixels;
-      colours = λ i l. rw (bytes n block px part h pixels sixteen) (shown_pixel (mode_numbered n) (lawful n) (three_channels n) (fields_of (mode_numbered n) block) (plain n block px part h pixels sixteen) i l);
+      colours = λ i l. plain_same (read_into block px) i ∙ rw (bytes n block px part h pixels sixteen) (shown_pixel (mode_numbered n) (lawful n) (three_channels n) (fields_of (mode_numbered n) block) (plain n block px part h pixels sixteen) i l);
       accepted = rw (fields n block px part h pixels sixteen) (accepts n block px part h pixels sixteen);
       again = rw (fields n block px part h pixels sixteen) (returns n block px part h pixels sixteen);
     }

@@ -3,7 +3,7 @@ use Rattle.std.specs.Prelude.{ℕ, ◌+◌, ◌-◌, ◌*◌, ◌%◌, ◌^◌, 
 use Rattle.lists.specs.Rows.{up_from, sum}
 use Rattle.lists.specs.Bytes.{Bytes}
 use Rattle.bptc.specs.Mode.{mode_numbered}
-use Rattle.bptc.specs.Colour.{pixel_in, rgb_of, pixel_bytes}
+use Rattle.bptc.specs.Colour.{Rgba, rgb_of, pixel_bytes}
 use Rattle.bptc_block.specs.declared.Fields.{Fields}
 use Rattle.bptc_block.specs.Fields.{BlockFields, block_fields, rgb_fields}
 use Rattle.bptc_block.specs.Packed.{fields_of}
@@ -22,6 +22,10 @@ pub record Block (n : ℕ) (block : List ℕ) : Type 0 where
   pub bytes : Bytes block
   pub mode : get_or block 0 0 % 2 ^ (n + 1) ≡ 2 ^ n
 
+-- pixel i of 48 bytes, by the places of its bytes: said apart from the pixels that the calls' contracts speak of
+abbrev pub plain_pixel : List ℕ → ℕ → Rgba
+plain_pixel px i = record { r = get_or px (i * 3) 0; g = get_or px (i * 3 + 1) 0; b = get_or px (i * 3 + 2) 0; a = 255 }
+
 -- what is read of such a block, and what packing makes of it
 pub record ReadWhole (n : ℕ) (block px part : List ℕ) : Type 0 where
   -- its mode, and the chapter's fields
@@ -30,7 +34,7 @@ pub record ReadWhole (n : ℕ) (block px part : List ℕ) : Type 0 where
       read_of block px ≡ record { refusal = 0; mode = n; partition = f.partition; ends = map rgb_of f.ends; p = f.p; indices = f.indices }
   -- 48 bytes, red, green and blue of the colour that the chapter gives each pixel
   pub long : length (read_into block px) ≡ 48
-  pub colours : (i : ℕ) → i < 16 → pixel_in 3 (read_into block px) i ≡ colour_at (mode_numbered n) (fields_of (mode_numbered n) block) i
+  pub colours : (i : ℕ) → i < 16 → plain_pixel (read_into block px) i ≡ colour_at (mode_numbered n) (fields_of (mode_numbered n) block) i
   -- packing the fields read, with the same mode, gives the same sixteen bytes
   pub accepted : pack_of n (fields_read (read_of block px)) part ≡ 0
   pub again : pack_into n (fields_read (read_of block px)) part ≡ block
@@ -67,7 +71,7 @@ MeasuredSum =
 
 -- every pixel has the colour that the chapter gives the block there
 abbrev pub SameColours : ℕ → List ℕ → List ℕ → Type 0
-SameColours n block px = (i : ℕ) → i < 16 → pixel_in 3 px i ≡ colour_at (mode_numbered n) (fields_of (mode_numbered n) block) i
+SameColours n block px = (i : ℕ) → i < 16 → plain_pixel px i ≡ colour_at (mode_numbered n) (fields_of (mode_numbered n) block) i
 
 -- the error measured is 0 exactly when every pixel equals the block's colour there
 abbrev pub MeasuredZero : Type 0

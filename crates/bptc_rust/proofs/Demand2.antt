@@ -1,7 +1,7 @@
 -- Demand 2: a candidate in range is not declined, and the block and the error of `finish` are the Rust's.
-use Prim.Native.Nat.{ℕ, ◌*◌, ◌+◌, ◌^◌, ◌<◌}
+use Prim.Native.Nat.{ℕ, ◌^◌, ◌<◌}
 use native.Mathlib.Omega.{arith}
-use mathlib.Core.Path.{◌≡◌, refl, sym, ap, ◌∙◌}
+use mathlib.Core.Path.{◌≡◌, sym, ap, ◌∙◌}
 use mathlib.Core.Logic.{inl, inr}
 use mathlib.Core.List.{List, map}
 use lib.Dec.{eqb}
@@ -9,11 +9,10 @@ use lib.ListN.{length}
 use Rattle.lists.specs.Tests.{pick}
 use Rattle.lists.specs.Rows.{up_from}
 use Rattle.lists.specs.Bytes.{Bytes}
-use Rattle.lists.proofs.Rows.{each_same}
 use Rattle.bptc.specs.declared.Rgb.{Rgb}
 use Rattle.bptc.specs.Mode.{mode_numbered}
-use Rattle.bptc.specs.Colour.{rgb_of, without_alpha, pixel_in, pixels_of, squared_distance}
-use Rattle.bptc.specs.Internal.Colour.{black, rgb_at, colours_of}
+use Rattle.bptc.specs.Colour.{without_alpha, pixels_of, squared_distance}
+use Rattle.bptc.specs.Internal.Colour.{colours_of}
 use Rattle.bptc.proofs.ColourBounds.{pixels-shown, colours-length}
 use Rattle.bptc.proofs.PixelBytes.{pixels_in}
 use Rattle.bptc.proofs.Opaque.{pixels_opaque}
@@ -29,7 +28,7 @@ use Rattle.bptc_block.proofs.Refusals.{Known, candidate_good, checked}
 use Rattle.bptc_block.proofs.Finishing.{Good, fields_plain}
 use Rattle.bptc_block.proofs.FinishCall.{finish-declines, finish-answer, finish-block}
 use Rattle.bptc_rust.specs.Encode.{compress_mode1, compress_mode3}
-use Rattle.bptc_rust.specs.Demand2.{rust_of, Demand2}
+use Rattle.bptc_rust.specs.Demand2.{pixel_of_bytes, rust_of, Demand2}
 use Rattle.bptc_rust.proofs.Agree.{rust1, rust3}
 
 module _ (px : List ℕ) (long : length px ≡ 48) (bytes : Bytes px) where
@@ -37,10 +36,8 @@ module _ (px : List ℕ) (long : length px ≡ 48) (bytes : Bytes px) where
   sixteen = omega (arith, colours-length px)
 
   -- the pixels in three channels
-  three_channels : map (λ (i : ℕ). rgb_of (pixel_in 3 px i)) (up_from 0 16) ≡ colours_of px
-  three_channels =
-      each_same black (λ (i : ℕ). rgb_of (pixel_in 3 px i)) (rgb_at px) 16 (λ i h. let e : i * 3 + 0 ≡ i * 3 = omega arith in rw e refl)
-      ∙ pixels_in px long
+  three_channels : map (pixel_of_bytes px) (up_from 0 16) ≡ colours_of px
+  three_channels = pixels_in px long
 
   either : (n : ℕ) → Known n → (part : ℕ) (ends : List Rgb) (ps : PBits) → part < 2 ^ (mode_numbered n).partition_bits →
       Kept (mode_numbered n) ends →
