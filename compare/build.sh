@@ -1,5 +1,5 @@
 # What the commands of this folder share: the items of the Rust and the programs of this folder, made under target/compare, and the
-# library and bc7, which rt makes in out/ of their crates.
+# library and programs that rt makes in out/ of their crates.
 
 root=$(cd "$(dirname "${BASH_SOURCE[0]}")/.." && pwd)
 out=$root/target/compare
@@ -36,6 +36,14 @@ make_program() {
     [ -n "${BC7:-}" ] || run_rt bc7 run -- help
     [ -f "$program" ] && [ -x "$program" ] || fail 1 "$program: no such program"
     program=$(realpath -- "$program")
+}
+
+# Sets quality to quality_checks, which is made unless QUALITY names one. It reads standard input to its end.
+make_quality() {
+    quality=${QUALITY:-$root/crates/quality_checks/out/quality_checks}
+    [ -n "${QUALITY:-}" ] || run_rt quality_checks run </dev/null
+    [ -f "$quality" ] && [ -x "$quality" ] || fail 1 "$quality: no such program"
+    quality=$(realpath -- "$quality")
 }
 
 # Sets python to Debian's own python3, for which its packages of the decoders are, unless PYTHON names another.

@@ -24,18 +24,25 @@ def read(path):
         return file.read()
 
 
-def end_wrong(ended, start):
-    """What is wrong with how a run ended: a signal, words on standard error, or not one line that says so, the last, which begins
-    like this."""
-    lines = ended.stdout.splitlines()
-    marked = [line for line in lines if line.startswith((b"failed: ", b"done: "))]
+def marked(said):
+    """The lines of a stream that say how a run ended."""
+    return [line for line in said.splitlines() if line.startswith((b"failed: ", b"done: "))]
+
+
+def end_wrong(ended, start, on="stdout"):
+    """What is wrong with how a run ended: a signal, words on standard error, or not one line that says so on a stream, the last, which
+    begins like this."""
+    said = getattr(ended, on)
     if ended.returncode < 0:
         return f"ended by signal {-ended.returncode}"
-    if ended.stderr:
+    if on == "stdout" and ended.stderr:
         return f"says on standard error {ended.stderr[:80]}"
-    if marked != lines[-1:] or not ended.stdout.endswith(b"\n"):
-        return f"ends {ended.stdout[-160:]}, with {len(marked)} lines that say how it ended"
-    return None if lines[-1].startswith(os.fsencode(start)) else f"ends {lines[-1]}, not '{start}'"
+    if on == "stderr" and (marked(ended.stdout) or said.count(b"\n") != 1):
+        return f"says on standard error {said[:160]}, and on standard output {marked(ended.stdout)}"
+    if marked(said) != said.splitlines()[-1:] or not said.endswith(b"\n"):
+        return f"ends {said[-160:]}, with {len(marked(said))} lines that say how it ended"
+    last = said.splitlines()[-1]
+    return None if last.startswith(os.fsencode(start)) else f"ends {last}, not '{start}'"
 
 
 class Held:
@@ -72,27 +79,37 @@ class Held:
         """Counts the last run where something does not hold of it."""
         self.count(arguments, None if true else what)
 
-    def refused(self, name, *arguments, why="", **options):
+    def refused(self, name, *arguments, why="", on="stdout", **options):
         """A run that must end with one line about a name, with this reason, and leave every file as it was."""
         before = contents(self.folder)
         ended = self.run(arguments, **options)
-        self.count(arguments, end_wrong(ended, f"failed: {name}: "))
-        line = ended.stdout.rpartition(b"failed: ")[2]
+        self.count(arguments, end_wrong(ended, f"failed: {name}: ", on))
+        line = getattr(ended, on).rpartition(b"failed: ")[2]
         self.expect(os.fsencode(why) in line, arguments, f"does not say '{why}': {line[-160:]}")
         self.expect(contents(self.folder) == before, arguments, "changes or leaves a file")
 
-    def done(self, *arguments, makes=None):
-        """A run that must end well and write one file at most; gives the lines before its last."""
+    def mistaken(self, line, *arguments, on="stdout"):
+        """A run that must say nothing but this one line, and leave every file as it was."""
         before = contents(self.folder)
         ended = self.run(arguments)
-        self.count(arguments, end_wrong(ended, "done: "))
-        self.expect({**before, makes: None} == {**contents(self.folder), makes: None}, arguments, "changes or leaves another file")
-        return ended.stdout.decode(errors="replace").splitlines()[:-1]
+        said = {"stdout": b"", "stderr": b"", on: os.fsencode(f"failed: {line}\n")}
+        right = ended.returncode >= 0 and said == {"stdout": ended.stdout, "stderr": ended.stderr}
+        self.expect(right, arguments, f"says {ended.stdout[-160:]} and {ended.stderr[-160:]}, not '{line}'")
+        self.expect(contents(self.folder) == before, arguments, "changes or leaves a file")
 
-    def on_terminal(self, *arguments):
+    def done(self, *arguments, makes=None, end="done: ", on="stdout"):
+        """A run that must end well with such a line and write one file at most; gives the lines before it on standard output."""
+        before = contents(self.folder)
+        ended = self.run(arguments)
+        self.count(arguments, end_wrong(ended, end, on))
+        self.expect({**before, makes: None} == {**contents(self.folder), makes: None}, arguments, "changes or leaves another file")
+        lines = ended.stdout.decode(errors="replace").splitlines()
+        return lines if on == "stderr" else lines[:-1]
+
+    def on_terminal(self, *arguments, **options):
         """What a run says on standard error where that is a terminal."""
         ours, theirs = pty.openpty()
-        self.run(arguments, stderr=theirs)
+        self.run(arguments, stderr=theirs, **options)
         os.close(theirs)
         try:
             return os.read(ours, 65536)

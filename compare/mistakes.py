@@ -7,8 +7,24 @@ import tempfile
 
 from disk import disk_full, permissions_wrong
 from held import Held, read
+from options import (
+    bands_good,
+    bands_wrong,
+    commands_wrong,
+    helped,
+    maps_good,
+    names_like_options,
+    numbers_wrong,
+    options_unknown,
+    options_wrong,
+    reads_good,
+    stream,
+    tables_good,
+)
 from program import ACCEPTED, HEADER, REFUSED, SMALL, drawn, drawn_pixels, proposed, record
+from streams import output_refused
 from unusual import headers_good, progress, proposals_good, sizes_good
+from wrapper import line_ends, outputs_refused, passed_on, programs_found, statuses, stopped, terminal_kept, verdicts
 
 WRONG_HEADERS = (  # with what is said to be wrong
     ("begin with P6", b""),
@@ -138,8 +154,15 @@ def headers_wrong(held):
     for header in (HEADER % SMALL, HEADER % (16384, 16384)):
         held.put("wrong.ppm", header)
         held.refused("wrong.ppm", "bake", "wrong.ppm", "old.bc7", why="ends early")
-    held.put("wrong.ppm", b"P6\n5 3\n255\r\n" + pixels)
-    held.refused("wrong.ppm", "bake", "wrong.ppm", "old.bc7", why="longer than its header says")
+    for header, more in ((b"P6\n5 3\n255\r", pixels + b"1"), (b"P6\n5 3\n255\n", b"\r\n" + pixels)):
+        held.put("wrong.ppm", header + more)
+        held.refused("wrong.ppm", "bake", "wrong.ppm", "old.bc7", why="longer than its header says")
+    for header, more in ((b"P6\n5 3\n255\r\n", pixels), (b"P6\r\n5 3\r\n255\r\n", pixels), (b"P6\n5 3\n255\r\n", pixels[:-3])):
+        held.put("wrong.ppm", header + more)
+        line = "wrong.ppm: has a header with CRLF line ends; expected one LF behind 255"
+        held.mistaken(line, "bake", "wrong.ppm", "old.bc7")
+        held.mistaken(line, "measure", "wrong.ppm", "small.bc7")
+        held.mistaken(line, "map", "wrong.ppm", "small.bc7", "old.ppm")
 
 
 def files_wrong(held):
@@ -158,24 +181,11 @@ def files_wrong(held):
         held.refused(name, "map", "small.ppm", "small.bc7", name)
 
 
-def arguments_wrong(held):
-    """Too few and too many arguments, empty ones, and commands, options and numbers that are none."""
-    held.refused("bc7")
-    held.refused("help", "help", "me", why="expected ")
-    for command in ("Bake", "bakes", "--help", "-"):
-        held.refused(command, command, "small.ppm", "old.bc7")
-    for command, enough, most in (("bake", 2, 3), ("measure", 2, 4), ("read", 1, 1), ("show", 4, 4), ("map", 3, 3)):
-        for count in [*range(enough), *range(most + 1, 12)]:
-            held.refused(command, command, *["none"] * count, why="expected ")
-    for option in ("--worst", "--all", "--total=1", "total"):
-        held.refused("measure", "measure", "small.ppm", "small.bc7", option)
-    held.refused("measure", "measure", "small.ppm", "small.bc7", "--total", "--worst")
-    for number in ("0", "1001", "x", "-1", "+1", "1.0", " 1", "1 ", "18446744073709551617", "99999999999999999999999"):
-        held.refused(number, "measure", "small.ppm", "small.bc7", "--worst", number, why="1 to 1000")
-        held.refused(number, "measure", "--worst", number, "small.ppm", "small.bc7", why="1 to 1000")
+def sizes_wrong(held):
+    """Sizes that are none, and sizes that a plate does not have."""
     for number in ("0", "16385", "x", "-1", "+5", "5.0", " 5", "18446744073709551621", "99999999999999999999999"):
-        held.refused(number, "show", "small.bc7", number, 3, "old.ppm", why="no width")
-        held.refused(number, "show", "small.bc7", 5, number, "old.ppm", why="no height")
+        held.mistaken(f"{number}: is no width; expected 1 to 16384", "show", "small.bc7", number, 3, "old.ppm")
+        held.mistaken(f"{number}: is no height; expected 1 to 16384", "show", "small.bc7", 5, number, "old.ppm")
     for width, height in ((4, 4), (9, 3), (5, 5), (16384, 16384)):
         held.refused("small.bc7", "show", "small.bc7", width, height, "old.ppm", why="has 2 blocks; expected ")
 
@@ -210,37 +220,105 @@ def names_wrong(held):
     held.refused("device", "read", "device", why="is a device")
 
 
+def kind_of(first):
+    """What a block with such a first byte is."""
+    return f"mode {(first & -first).bit_length() - 1}" if first else "reserved"
+
+
+def unreadable(firsts):
+    """What is said of a plate of 192 blocks in 16 columns, some of which have such first bytes, by their numbers."""
+    number, kinds = min(firsts), [kind_of(first) for first in firsts.values()]
+    counts = ", ".join(f"{kind}: {kinds.count(kind)}" for kind in sorted(set(kinds)))
+    first = f"has {kind_of(firsts[number])}" if firsts[number] else "is reserved, its first byte is 0"
+    place = f"block {number} (column {number % 16}, row {number // 16})"
+    return f"{place} {first}; expected mode 1 or 3; unreadable are {len(firsts)} of 192 blocks: {counts}"
+
+
+def unreadable_plates():
+    """The first bytes of blocks that are not read: one of each kind in some places, one of all kinds, and all blocks of one kind."""
+    kinds = (0, 1, 4, 16, 32, 64, 128, 0xF4, 0xF0, 0xC0)
+    for number in (0, 17, 191):
+        yield from ({number: first} for first in kinds)
+    yield {150 - 7 * n: first for n, first in enumerate(kinds)}
+    yield {11 * n: kinds[n % 3] for n in range(17)}
+    yield from ({n: first for n in range(192)} for first in (0, 64))
+
+
 def blocks_wrong(held):
-    """Plates with a reserved block, and with one of each mode that is not read."""
+    """Plates with reserved blocks, and with blocks of each mode that is not read. A table may have begun before they are found."""
     plate = read(held.path("plate.bc7"))
-    for number, place in ((0, "column 0, row 0"), (17, "column 1, row 1"), (191, "column 15, row 11")):
-        for first in (0, *(1 << mode for mode in (0, 2, 4, 5, 6, 7))):
-            why = f"block {number} ({place}) " + ("has another mode" if first else "is reserved")
-            held.put("wrong.bc7", plate[: 16 * number] + bytes([first]) + plate[16 * number + 1 :])
-            held.refused("wrong.bc7", "measure", "photo.ppm", "wrong.bc7", why=why)
-            held.refused("wrong.bc7", "measure", "photo.ppm", "wrong.bc7", "--total", why=why)
-            held.refused("wrong.bc7", "show", "wrong.bc7", 64, 48, "old.ppm", why=why)
-            held.refused("wrong.bc7", "map", "photo.ppm", "wrong.bc7", "old.ppm", why=why)
-            lines = held.done("read", "wrong.bc7")
-            said = f"block {number}: " + ("another mode than 1 and 3" if first else "reserved, its first byte is 0")
-            held.expect(len(lines) == 193 and lines[number] == said, ["read", "wrong.bc7"], f"does not say '{said}'")
+    for firsts in unreadable_plates():
+        blocks = [plate[16 * n : 16 * n + 16] for n in range(192)]
+        held.put("wrong.bc7", b"".join(bytes([firsts[n]]) + block[1:] if n in firsts else block for n, block in enumerate(blocks)))
+        why = unreadable(firsts)
+        line = f"wrong.bc7: {why}"
+        for options in ((), ("--worst", 3), ("--csv",)):
+            held.refused("wrong.bc7", "measure", "photo.ppm", "wrong.bc7", *options, why=why, on=stream(options))
+        held.mistaken(line, "measure", "photo.ppm", "wrong.bc7", "--total")
+        held.mistaken(line, "show", "wrong.bc7", 64, 48, "old.ppm")
+        held.mistaken(line, "map", "photo.ppm", "wrong.bc7", "old.ppm")
+        blocks_read(held, firsts)
+
+
+def blocks_read(held, firsts):
+    """Reads the plate of which some blocks have such first bytes, and holds their lines to what they are."""
+    lines = held.done("read", "wrong.bc7")
+    held.expect(len(lines) == 193 and lines[-1] == "blocks 192", ["read", "wrong.bc7"], "says another number of blocks")
+    for number, first in firsts.items():
+        kind = kind_of(first) + (", which is not read" if first else ", its first byte is 0")
+        held.expect(lines[number] == f"block {number}: {kind}", ["read", "wrong.bc7"], f"says '{lines[number]}', not '{kind}'")
+    number = max(firsts)
+    held.expect(held.done("read", "wrong.bc7", "--block", number) == [lines[number], "blocks 192"], ["read", "--block", number], "differs")
+
+
+def plates_empty(held):
+    """A plate without any block."""
+    held.put("empty.bc7", b"")
+    line = "empty.bc7: has 0 bytes; expected whole blocks of 16"
+    for options in ((), ("--width", 5), ("--block", 0)):
+        held.mistaken(line, "read", *options, "empty.bc7")
+    held.mistaken(line, "show", "empty.bc7", *SMALL, "old.ppm")
+    held.mistaken(line, "map", "small.ppm", "empty.bc7", "old.ppm")
+    for options in ((), ("--total",), ("--worst", 3), ("--csv",)):
+        held.mistaken(line, "measure", "small.ppm", "empty.bc7", *options, on=stream(options))
 
 
 GROUPS = (
     photographs_cut,
     plates_cut,
+    plates_empty,
     proposals_wrong,
     headers_wrong,
     files_wrong,
-    arguments_wrong,
+    helped,
+    commands_wrong,
+    options_unknown,
+    options_wrong,
+    numbers_wrong,
+    sizes_wrong,
     names_wrong,
+    names_like_options,
     blocks_wrong,
+    bands_wrong,
+    bands_good,
+    maps_good,
+    reads_good,
+    tables_good,
     permissions_wrong,
     disk_full,
+    output_refused,
     headers_good,
     sizes_good,
     proposals_good,
     progress,
+    statuses,
+    line_ends,
+    verdicts,
+    passed_on,
+    outputs_refused,
+    stopped,
+    terminal_kept,
+    programs_found,
 )
 
 

@@ -8,6 +8,15 @@ SEED = 1  # of the noise in drawn pictures
 PERIOD = 256  # pixels after which a drawn gradient comes back
 STRIPE = 32  # pixels from edge to edge
 SMALL = 5, 3  # the size of a small picture, of two blocks
+FIGURES = (  # the names of the figures, a line each
+    "total",
+    "mean squared error per channel",
+    "PSNR",
+    "pixels",
+    "blocks",
+    "sum of block errors",
+    "worst block error",
+)
 HEADER = b"P6\n%d %d\n255\n"  # of a picture, as bc7 writes it
 
 

@@ -1,7 +1,7 @@
 """Runs of bc7 on unusual input that is right; see mistakes."""
 
 from held import read
-from program import ACCEPTED, REFUSED, SMALL, drawn, drawn_pixels, is_picture, proposed
+from program import ACCEPTED, FIGURES, REFUSED, SMALL, drawn, drawn_pixels, is_picture, proposed
 
 TALL = 8, 80  # the size of a picture with more than 16 rows of blocks
 
@@ -19,13 +19,19 @@ HEADERS = (
 
 
 def headers_good(held):
-    """Headers with comments and all kinds of white space, each of which must give the same plate."""
+    """Headers with comments and all kinds of white space, each of which must give the same plate; and a first pixel like a line end."""
     held.done("bake", "small.ppm", "one.bc7", makes="one.bc7")
     for header in HEADERS:
         held.put("same.ppm", header + drawn_pixels(*SMALL))
         held.done("bake", "same.ppm", "same.bc7", makes="same.bc7")
         same = read(held.path("same.bc7")) == read(held.path("one.bc7"))
         held.expect(same, ["bake", "same.ppm"], f"makes another plate with the header {header[:40]}")
+    line_end_first = b"\n" + drawn_pixels(*SMALL)[1:]
+    for name, end in (("one", b"\n"), ("same", b"\r")):
+        held.put(f"{name}.ppm", b"P6\n5 3\n255" + end + line_end_first)
+        held.done("bake", f"{name}.ppm", f"{name}.bc7", makes=f"{name}.bc7")
+    same = read(held.path("same.bc7")) == read(held.path("one.bc7"))
+    held.expect(same, ["bake", "same.ppm"], "takes a first pixel like a line end for a part of the header")
 
 
 def measured_good(held, size, blocks, said):
@@ -33,11 +39,11 @@ def measured_good(held, size, blocks, said):
     for options in (["size.ppm", "size.bc7", "--total"], ["--total", "size.ppm", "size.bc7"]):
         held.expect(held.done("measure", *options) == said, ["measure", *size], "says other figures than baking")
     table = held.done("measure", "size.ppm", "size.bc7")
-    errors = [int(line.split()[4]) for line in table[1:-4]]
-    held.expect(table[-4:] == said and len(errors) == blocks, ["measure", *size], "has another table")
-    held.expect(said[1] == f"total {sum(errors)}", ["measure", *size], "has a total that is not the table's")
+    errors = [int(line.split()[4]) for line in table[1 : -len(FIGURES)]]
+    held.expect(table[-len(FIGURES) :] == said and len(errors) == blocks, ["measure", *size], "has another table")
+    held.expect(f"sum of block errors {sum(errors)}" in said, ["measure", *size], "has a sum that is not the table's")
     worst = held.done("measure", "size.ppm", "size.bc7", "--worst", 7)
-    listed = [int(line.split()[4]) for line in worst[1:-4]]
+    listed = [int(line.split()[4]) for line in worst[1 : -len(FIGURES)]]
     held.expect(listed == sorted(errors, reverse=True)[:7], ["measure", *size], "has other worst blocks")
 
 
@@ -47,7 +53,7 @@ def sizes_good(held):
         across, down = (-(-side // 4) for side in size)
         held.put("size.ppm", drawn(*size))
         said = held.done("bake", "size.ppm", "size.bc7", makes="size.bc7")
-        held.expect(said[:1] == [f"blocks {across * down}"], ["bake", *size], f"says {said}")
+        held.expect(f"blocks {across * down}" in said, ["bake", *size], f"says {said}")
         measured_good(held, size, across * down, said)
         held.done("show", "size.bc7", *size, "out.ppm", makes="out.ppm")
         held.expect(is_picture(read(held.path("out.ppm")), *size), ["show", *size], "writes no picture of this size")
@@ -64,10 +70,10 @@ def proposals_good(held):
     expected = [f"block 0 (column 0, row 0), proposal {1 + i}: refused by {check}, " for i, check in enumerate(checks)]
     expected += [f"block 1 (column 1, row 0), proposal {i}: refused by {check}, " for i, check in enumerate(reversed(checks))]
     expected.append("refused by " + ", by ".join(f"{check}: {2 * checks.count(check)}" for check in (3, 4, 5, 6)))
-    named = len(lines) == len(expected) + 4 and all(line.startswith(start) for line, start in zip(lines, expected))
+    named = len(lines) == len(expected) + len(FIGURES) and all(line.startswith(start) for line, start in zip(lines, expected))
     held.expect(named, ["bake", "small.ppm", "some.bc7", "some.in"], f"says {lines}")
     measured = held.done("measure", "small.ppm", "some.bc7", "--total")
-    held.expect(lines[-4:] == measured, ["measure", "small.ppm", "some.bc7"], "says other figures than baking")
+    held.expect(lines[-len(FIGURES) :] == measured, ["measure", "small.ppm", "some.bc7"], "says other figures than baking")
     held.put("many.in", proposed([ACCEPTED[0]] * 255, [*[REFUSED[0][1]] * 254, ACCEPTED[1]]))
     lines = held.done("bake", "small.ppm", "some.bc7", "many.in", makes="some.bc7")
     counted = "refused by 3: 254, by 4: 0, by 5: 0, by 6: 0" in lines

@@ -21,6 +21,8 @@ from collections import defaultdict
 from pathlib import Path
 
 TOP = Path(__file__).resolve().parent.parent
+# the crates of the program, whose functions reach files and say mistakes
+PROGRAM = r"crates/(bc7|commands|baking|measuring|mapping|showing|plates|photos|row_work|reports|open_files|messages|mistakes)/"
 TYPES = r"\b(?:u8|u16|u32|u64|usize|bool)\b"
 
 
@@ -102,7 +104,7 @@ def point1():
     for f in ALL:
         if re.search(r"refusal|mistake|declined|earlier", f.name) and re.search(r"^u(8|32)$", f.result):
             yield f"{f.place}: {f.name} answers a number"
-        if f.result == "bool" and re.search(r"plates|commands|bc7/", f.path) and any("rt:" in p for p in f.parameters):
+        if f.result == "bool" and re.match(PROGRAM, f.path) and any("rt:" in p for p in f.parameters):
             yield f"{f.place}: {f.name} says a mistake and answers bool"
     for path in SOURCES:
         text = path.read_text(encoding="utf-8")

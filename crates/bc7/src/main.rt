@@ -8,7 +8,7 @@ use text::line::Line;
 const LINE: usize = 32768;
 
 // How many arguments are read, with the name of the program: more than any command takes.
-const MOST: usize = 8;
+const ARGUMENTS: usize = 9;
 
 // The arguments one behind the other, with a 0 byte behind each, in fixed memory. One that is too long is empty, as
 // a line of bytes can say no more of it.
@@ -16,7 +16,7 @@ fn command_line(env: &impl Env) -> Line<LINE> {
     let mut line = Line::new();
     let mut word = [0u8; 4096];
     // by their places: std's iterator of the arguments takes heap
-    for k in 1..MOST {
+    for k in 1..ARGUMENTS {
         match env.arg(k, &mut word) {
             Ok(n) => line.put(&word[..n]),
             Err(FillError::TooLong) => {}

@@ -2,55 +2,111 @@
 // the crates below.
 #![tactic(auto)]
 
-mod arguments;
-mod baking;
-mod failure;
-mod help;
-mod proposing;
-mod refused;
-
-use crate::arguments::Command;
-use crate::failure::Failure;
+use arguments::VERSION;
+use arguments::command::Command;
+use arguments::help::help;
+use arguments::names::Name;
 use arrayvec::ArrayVec;
-use plates::{mapping, measuring, plate_reading, showing};
+use messages::ending::say_failed;
+use messages::{say, say_line};
+use mistakes::failure::{Failure, Mistake, NotSaid};
+use std::fmt::Display;
+use std::io::Print;
 use text::words::Words;
 
 // How many words are looked at: more than any command takes, and as many as `bc7` hands over. They stand in fixed memory, as the program
 // takes no heap.
-const MOST: usize = 7;
+const WORDS: usize = 8;
+
+// Says the help of a command, or of all.
+fn say_help(rt: &impl Print, name: Option<Name>) -> Result<(), NotSaid> {
+    say(rt, help(name))?;
+    match name {
+        Some(name) => println!(rt; "done: this is the help of {name}").map_err(NotSaid),
+        None => say_line(rt, "done: this is the help"),
+    }
+}
+
+// Says the version.
+fn say_version(rt: &impl Print) -> Result<(), NotSaid> {
+    println!(rt; "bc7 {VERSION}").map_err(NotSaid)?;
+    say_line(rt, "done: this is the version")
+}
 
 // Runs a command.
 fn run_command<'a>(rt: &HostRuntime, command: Command<'a>) -> Result<(), Failure<'a>> {
     match command {
         Command::Bake {
+            rows,
             photo,
             plate,
             proposals,
-        } => baking::bake(rt, photo, plate, proposals)?,
+        } => baking::baking::bake(rt, photo, plate, proposals, rows),
         Command::Measure {
             photo,
             plate,
             shown,
-        } => measuring::measure(rt, photo, plate, shown)?,
-        Command::Read { plate } => plate_reading::read(rt, plate)?,
-        Command::Show { plate, size, out } => showing::show(rt, plate, size, out)?,
-        Command::Map { photo, plate, out } => mapping::map(rt, photo, plate, out)?,
-        Command::Help => help::help(rt),
+        } => measuring::measure::measure(rt, photo, plate, shown),
+        Command::Read {
+            plate,
+            width,
+            block,
+        } => plates::plate_reading::read(rt, plate, width, block),
+        Command::Show { plate, size, out } => showing::show(rt, plate, size, out),
+        Command::Map {
+            photo,
+            plate,
+            out,
+            scale,
+            white,
+        } => mapping::map(rt, [photo, plate, out], scale, white),
+        Command::Help(name) => Ok(say_help(rt, name)?),
+        Command::Version => Ok(say_version(rt)?),
     }
-    Ok(())
 }
 
-// Runs the command of a line.
-fn run_line<'a>(rt: &HostRuntime, line: &'a [u8]) -> Result<(), Failure<'a>> {
-    let mut words = ArrayVec::<&[u8], MOST>::new();
-    let _ = words.extend(Words::new(line).take(MOST));
-    let command = Command::parse(words.as_slice())?;
-    run_command(rt, command)
+// Says a mistake on standard output. Where that takes no more, says this on standard error; nothing is left to say where that takes no more
+// either.
+fn say_mistake<M: Display + Drop>(rt: &HostRuntime, what: &[u8], mistake: M) {
+    if let Err(not_said) = say_failed(rt, what, mistake) {
+        let failure = Failure::from(not_said);
+        let _ = say_failed(&rt.stderr(), failure.what, failure.mistake);
+    }
+}
+
+// Says a mistake on standard error.
+fn say_beside<M: Display + Drop>(rt: &HostRuntime, what: &[u8], mistake: M) {
+    let _ = say_failed(&rt.stderr(), what, mistake);
+}
+
+// Whether nothing but a table may stand on standard output.
+fn is_bare(words: &[&[u8]]) -> bool {
+    words.iter().any(|word| matches!(*word, b"--csv"))
+}
+
+// Runs the command of a line's words, and says its mistake: on standard error where standard output takes no more or has a bare table.
+fn run_words(rt: &HostRuntime, words: &[&[u8]]) {
+    let bare = is_bare(words);
+    match Command::parse(words) {
+        Err(misuse) if bare => say_beside(rt, misuse.word, misuse.mistake),
+        Err(misuse) => say_mistake(rt, misuse.word, misuse.mistake),
+        Ok(command) => match run_command(rt, command) {
+            Err(failure) if bare => say_beside(rt, failure.what, failure.mistake),
+            Err(
+                Failure {
+                    what,
+                    mistake: Mistake::StandardOutput(error),
+                },
+            ) => say_beside(rt, what, Mistake::StandardOutput(error)),
+            Err(failure) => say_mistake(rt, failure.what, failure.mistake),
+            Ok(()) => {}
+        },
+    }
 }
 
 // Runs the command of a line, in which a 0 byte ends each word. The last line on standard output says how it ended.
 pub fn run(rt: &HostRuntime, line: &[u8]) {
-    if let Err(failure) = run_line(rt, line) {
-        failure.say(rt);
-    }
+    let mut words = ArrayVec::<&[u8], WORDS>::new();
+    let _ = words.extend(Words::new(line).take(WORDS));
+    run_words(rt, words.as_slice());
 }

@@ -26,8 +26,8 @@ unfolding counted_all
 many_on f [] = omega arith
 many_on f (e ∷ es) = omega (arith, many_on (counted_of f e) es)
 
--- and their sum
-sum_on : (f : Figures) (es : List ℕ) → (counted_all f es).total ≡ f.total + sum es
+-- the sum of the blocks' errors
+sum_on : (f : Figures) (es : List ℕ) → (counted_all f es).block_errors ≡ f.block_errors + sum es
 unfolding counted_all
 sum_on f [] = omega arith
 sum_on f (e ∷ es) = omega (arith, sum_on (counted_of f e) es)

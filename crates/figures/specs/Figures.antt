@@ -6,13 +6,13 @@ use Rattle.figures.specs.declared.Figures.{Figures}
 
 -- the figures of no blocks
 abbrev pub none_yet : Figures
-none_yet = record { blocks = 0; total = 0; worst = 0; place = 0 }
+none_yet = record { blocks = 0; block_errors = 0; worst = 0; place = 0 }
 
 -- one block more; it is the worst where its error is greater than that of each before it
 abbrev pub counted_of : Figures → ℕ → Figures
 counted_of f error = record {
   blocks = f.blocks + 1;
-  total = f.total + error;
+  block_errors = f.block_errors + error;
   worst = pick (ltb f.worst error) error f.worst;
   place = pick (ltb f.worst error) f.blocks f.place;
 }
@@ -36,11 +36,11 @@ pub record FirstWorst (worst place : ℕ) (errors : List ℕ) : Type 0 where
 
 -- what figures say of a list of errors
 pub record Counts (f : Figures) (errors : List ℕ) : Type 0 where
-  -- how many there are
+  -- how many blocks there are
   pub many : f.blocks ≡ length errors
-  -- their sum
-  pub summed : f.total ≡ sum errors
-  -- and the first of the greatest
+  -- the sum of the errors
+  pub summed : f.block_errors ≡ sum errors
+  -- the greatest error, and the first block that has it
   pub worst : FirstWorst f.worst f.place errors
 
 -- counted from none, the figures say this of the blocks counted

@@ -5,17 +5,15 @@ ghost use Rattle.std.specs.Prelude.{◌≡◌, ◌+◌, ◌*◌, ◌<◌, ◌≤
 ghost use Rattle.figures.specs.Figures.{none_yet, counted_of, counted_all};
 
 pub mod entry;
-pub mod mean;
 pub mod row;
-pub mod shade;
 pub mod worst;
 
-// How many blocks, the sum of their errors, the greatest error, and the number of the first block that has it. The last two are 0 where there
-// are no blocks, as in `none_yet`, since the theorems speak of numbers.
+// How many blocks, the sum of their errors, the greatest error, and the number of the first block that has it. The last two are 0 where
+// there are no blocks, as in `none_yet`, since the theorems speak of numbers.
 #[derive(Clone, Copy)]
 pub struct Figures {
     pub blocks: u64,
-    pub total: u64,
+    pub block_errors: u64,
     pub worst: u32,
     pub place: u64,
 }
@@ -27,7 +25,7 @@ impl Figures {
     {
         Figures {
             blocks: 0,
-            total: 0,
+            block_errors: 0,
             worst: 0,
             place: 0,
         }
@@ -35,7 +33,7 @@ impl Figures {
 
     // The figures with one block more.
     pub fn counted(self, error: u32) -> Figures
-        requires { (self.total + error < 18446744073709551616) × (self.blocks < 18446744073709551615) }
+        requires { (self.block_errors + error < 18446744073709551616) × (self.blocks < 18446744073709551615) }
         ensures { result ≡ counted_of self error }
     {
         let place = if self.worst < error {
@@ -45,7 +43,7 @@ impl Figures {
         };
         Figures {
             blocks: self.blocks + 1,
-            total: self.total + u64::from(error),
+            block_errors: self.block_errors + u64::from(error),
             worst: self.worst.max(error),
             place,
         }
@@ -55,9 +53,11 @@ impl Figures {
     // the contract of each function over a row, and in no type: their lists are parts of the caller's buffers, lent anew for each row.
     #[tactic(auto, unfolding(crate::specs::Figures::counted_all))]
     pub fn counted_row(self, errors: &[u32], row: usize) -> Figures
-        requires { (row < 4096) × (length errors.now ≤ 4096) × (self.total ≤ row * 17592186044416) × (self.blocks ≤ row * 4096) }
+        requires few { (row < 4096) × (length errors.now ≤ 4096) }
+        requires bound { (self.block_errors ≤ row * 17592186044416) × (self.blocks ≤ row * 4096) × (self.place ≤ row * 4096) }
         ensures all { result ≡ counted_all self errors.now }
-        ensures bound { (result.total ≤ (row + 1) * 17592186044416) × (result.blocks ≤ (row + 1) * 4096) }
+        ensures sum { result.block_errors ≤ (row + 1) * 17592186044416 }
+        ensures bound { (result.blocks ≤ (row + 1) * 4096) × (result.place ≤ (row + 1) * 4096) }
     {
         let mut figures = self;
         for error in errors {

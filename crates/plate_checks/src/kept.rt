@@ -18,6 +18,21 @@ pub(crate) fn write(rt: &HostRuntime, path: &str, bytes: &[u8]) {
     let _ = fs::write(rt, path, bytes);
 }
 
+// Says whether the bytes of a file stand in another from a place on.
+pub(crate) fn say_part(rt: &HostRuntime, path: &str, stored: &str, from: usize) {
+    let mut first = [0u8; 65536];
+    let mut second = [0u8; 65536];
+    let ours = read(rt, path, &mut first);
+    let theirs = read(rt, stored, &mut second);
+    let rest = theirs.get(from..).unwrap_or_default();
+    let verdict = if !ours.is_empty() && rest.starts_with(ours) {
+        "is part of"
+    } else {
+        "is no part of"
+    };
+    let _ = println!(rt; "{path} {verdict} {stored}");
+}
+
 // Says whether two files have the same bytes.
 pub(crate) fn say_same(rt: &HostRuntime, path: &str, stored: &str) {
     let mut first = [0u8; 65536];

@@ -9,7 +9,9 @@ mod wrong;
 // The example, and then what is refused.
 fn main(rt: HostRuntime) {
     example::bake_and_measure(&rt);
+    example::bake_bands(&rt);
     example::small_plate(&rt);
+    example::help(&rt);
     wrong::cut_files(&rt);
     wrong::headers(&rt);
     wrong::plates(&rt);

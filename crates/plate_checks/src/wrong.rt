@@ -31,7 +31,7 @@ pub(crate) fn cut_files(rt: &HostRuntime) {
 }
 
 // Wrong headers, and a photograph that is longer than it says.
-const HEADERS: [&[u8]; 11] = [
+const HEADERS: [&[u8]; 12] = [
     b"P5 1 1 255 abc",
     b"P6 x 1 255 abc",
     b"P6 1 # 1 255 abc",
@@ -43,6 +43,7 @@ const HEADERS: [&[u8]; 11] = [
     b"P6 1 1 255abc",
     b"P6 1 1 255 abcd",
     b"P6 2 1 255 abc",
+    b"P6\r\n1 1\r\n255\r\nabc",
 ];
 
 // Bakes each file with a wrong header.
@@ -64,6 +65,10 @@ pub(crate) fn plates(rt: &HostRuntime) {
     run(rt, b"measure\x00small.ppm\x00wrong\x00");
     run(rt, b"measure\x00signal.ppm\x00small.bc7\x00");
     run(rt, b"show\x00small.bc7\x009\x004\x00picture.ppm\x00");
+    run(rt, b"read\x00small.bc7\x00--width\x0012\x00");
+    run(rt, b"read\x00small.bc7\x00--block\x002\x00");
+    write(rt, "wrong", b"");
+    run(rt, b"read\x00wrong\x00");
 }
 
 // Proposals in which the last byte of a record, the second of block 1, is 2.
@@ -77,8 +82,7 @@ pub(crate) fn flags(rt: &HostRuntime) {
 }
 
 // Wrong arguments, files that are not there, and an output that is an input.
-const LINES: [&[u8]; 14] = [
-    b"",
+const LINES: [&[u8]; 20] = [
     b"paint\x00",
     b"help\x00me\x00",
     b"bake\x00small.ppm\x00",
@@ -92,6 +96,13 @@ const LINES: [&[u8]; 14] = [
     b"show\x00small.bc7\x005\x00\x00out.ppm\x00",
     b"show\x00small.bc7\x00x\x003\x00out.ppm\x00",
     b"show\x00small.bc7\x005\x00-3\x00out.ppm\x00",
+    b"bake\x00small.ppm\x00kept.bc7\x00--rows\x001\x001\x00",
+    b"bake\x00small.ppm\x00kept.bc7\x00--rows\x001\x00",
+    b"measure\x00small.ppm\x00small.bc7\x00--total\x00--csv\x00",
+    b"measure\x00small.ppm\x00small.bc7\x00--total\x00--total\x00",
+    b"map\x00small.ppm\x00small.bc7\x00out.ppm\x00--white\x000\x00",
+    b"show\x00small.bc7\x005\x003\x00out.ppm\x00--linear\x00",
+    b"help\x00bake\x00measure\x00",
 ];
 
 // Runs each line with wrong arguments, with a file that is not there or with an output that is an input.

@@ -1,55 +1,22 @@
 // Plates: opened, their blocks counted, and read a row at a time.
-ghost use Rattle.std.specs.Prelude.{◌<◌};
+ghost use Rattle.std.specs.Prelude.{◌≡◌, ◌<◌};
+ghost use Rattle.mistakes.specs.Counts.{modes_counted};
+ghost use Rattle.plates.specs.Counting.{modes_in};
 
-use crate::failure::Failure;
-use crate::inputs::Input;
-use crate::report::Place;
-use crate::size::Size;
-use block::Refusal;
 use groups::number_at;
-use std::fmt;
+use mistakes::failure::Failure;
+use mistakes::plate::{PlateMistake, UnreadBlock};
+use mistakes::unreadable::{BlockMode, Unreadable};
+use open_files::inputs::Input;
+use sizes::place::Place;
+use sizes::size::{ROW, Size};
 
-// The bytes of a row of blocks of the greatest width.
-pub const ROW: usize = 65536;
-
-// What is wrong with a plate.
-#[derive(Clone, Copy)]
-pub enum PlateMistake {
-    PartOfBlock { has: u64 },
-    OtherSize { has: u64, expected: u64, size: Size },
-    EndsEarly,
-    Reserved(Place),
-    OtherMode(Place),
-}
-
-impl fmt::Display for PlateMistake {
-    fn fmt<W: fmt::Write>(&self, f: &mut fmt::Formatter<W>) -> fmt::Result {
-        match *self {
-            PlateMistake::PartOfBlock { has } => {
-                write!(f, "has {has} bytes; expected whole blocks of 16")
-            }
-            PlateMistake::OtherSize {
-                has,
-                expected,
-                size,
-            } => write!(f, "has {has} blocks; expected {expected} for {size}"),
-            PlateMistake::EndsEarly => {
-                f.write_str("ends early; expected the blocks that it had when it was opened")
-            }
-            PlateMistake::Reserved(place) => write!(
-                f,
-                "{place} is reserved, its first byte is 0; expected mode 1 or 3"
-            ),
-            PlateMistake::OtherMode(place) => {
-                write!(f, "{place} has another mode; expected mode 1 or 3")
-            }
-        }
-    }
-}
+// How many blocks are read at once where no row of a picture is: those of the longest row.
+pub const BLOCKS: u64 = 4096;
 
 // A plate that is open for reading and how many blocks it has.
 #[derive(Drop)]
-pub(crate) struct Plate<'a> {
+pub struct Plate<'a> {
     pub input: Input<'a>,
     pub blocks: u64,
     ghost few: { blocks < 1152921504606846976 },
@@ -57,36 +24,29 @@ pub(crate) struct Plate<'a> {
 
 impl<'a> Plate<'a> {
     // Opens a plate.
-    pub(crate) fn open(rt: &HostRuntime, path: &'a [u8]) -> Result<Plate<'a>, Failure<'a>> {
+    pub fn open(rt: &HostRuntime, path: &'a [u8]) -> Result<Plate<'a>, Failure<'a>> {
         let input = Input::open(rt, path)?;
         let has = input.length()?;
         let plate = Plate {
             input,
             blocks: has / 16,
         };
-        plate.rewind()?;
-        if has % 16 != 0 {
-            return Err(plate.input.failure(PlateMistake::PartOfBlock { has }));
+        if has == 0 || has % 16 != 0 {
+            return Err(plate.input.failure(PlateMistake::NoWholeBlocks { has }));
         }
+        plate.go_to(0)?;
         Ok(plate)
     }
 
-    // The failure of this plate by a block that is declined.
-    pub(crate) fn declined(&self, refusal: Refusal, place: Place) -> Failure<'a> {
-        self.input.failure(match refusal {
-            Refusal::Reserved => PlateMistake::Reserved(place),
-            // no other refusal is one of a whole block that is read
-            _ => PlateMistake::OtherMode(place),
-        })
-    }
-
-    // Goes to the first block.
-    pub(crate) fn rewind(&self) -> Result<(), Failure<'a>> {
-        self.input.go_to(0)
+    // Goes to a block.
+    pub fn go_to(&self, number: u64) -> Result<(), Failure<'a>>
+        requires { number < 1152921504606846976 }
+    {
+        self.input.go_to(number * 16)
     }
 
     // Refuses a plate that has not the blocks of a picture of this size.
-    pub(crate) fn check_size(&self, size: Size) -> Result<(), Failure<'a>> {
+    pub fn check_size(&self, size: Size) -> Result<(), Failure<'a>> {
         let has = self.blocks;
         // Rust has no From between usize and u64
         let expected = number_at(size.rows(), size.columns().get(), 0) as u64;
@@ -103,10 +63,47 @@ impl<'a> Plate<'a> {
     }
 
     // Reads the next blocks.
-    pub(crate) fn read_blocks(&self, blocks: &mut [u8]) -> Result<(), Failure<'a>> {
+    pub fn read_blocks(&self, blocks: &mut [u8]) -> Result<(), Failure<'a>> {
         if self.input.read(blocks) != blocks.len() {
             return Err(self.input.failure(PlateMistake::EndsEarly));
         }
         Ok(())
+    }
+
+    // Counts the blocks that are not read, by their modes.
+    fn count_unreadable(&self) -> Result<Unreadable, Failure<'a>> {
+        self.go_to(0)?;
+        let mut counts = Unreadable::none();
+        // Room for the blocks of one part: the program takes no heap.
+        let mut all = [0u8; ROW];
+        for part in 0..self.blocks.div_ceil(BLOCKS) {
+            let n = BLOCKS.min(self.blocks - part * BLOCKS);
+            // Rust has no From between u64 and usize
+            let blocks = &mut all[..n as usize * 16];
+            self.read_blocks(blocks)?;
+            count_blocks(blocks, &mut counts);
+        }
+        Ok(counts)
+    }
+
+    // The failure of this plate by a block that is not read, with how many of it are not.
+    pub fn not_read(&self, place: Place, first: u8) -> Failure<'a> {
+        match self.count_unreadable() {
+            Ok(counts) => self.input.failure(PlateMistake::OtherMode(UnreadBlock {
+                place,
+                mode: BlockMode::of(first),
+                counts,
+            })),
+            Err(failure) => failure,
+        }
+    }
+}
+
+// Counts blocks by their modes.
+fn count_blocks(blocks: &[u8], counts: &mut Unreadable)
+    ensures { counts.new ≡ modes_counted counts.old (modes_in blocks.now) }
+{
+    for block in blocks.chunks_exact(16) {
+        counts.count(BlockMode::of(block[0]));
     }
 }

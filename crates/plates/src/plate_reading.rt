@@ -1,16 +1,20 @@
 // `bc7 read`: the fields of each block of a plate in words.
 ghost use Rattle.std.specs.Prelude.{◌<◌};
 
-use crate::failure::Failure;
-use crate::lines::Lines;
-use crate::plate::{Plate, ROW};
-use crate::said::say_done;
-use block::{Reading, Refusal, Rgb};
+use crate::plate::{BLOCKS, Plate};
+use arguments::numbers::Width;
+use block::{Reading, Rgb};
+use groups::across;
+use messages::ending::say_done;
+use messages::lines::Lines;
+use messages::say_line;
+use mistakes::failure::{Failure, NotSaid};
+use mistakes::plate::PlateMistake;
+use mistakes::unreadable::BlockMode;
+use sizes::size::ROW;
 use std::fmt;
 use std::io::Print;
-
-// The blocks that are read at once.
-const BLOCKS: u64 = 4096;
+use std::num::NonZeroU64;
 
 // An endpoint: red, green, blue. The colour itself is another crate's, where nothing prints it.
 #[derive(Clone, Copy)]
@@ -76,40 +80,85 @@ impl fmt::Display for InWords {
     }
 }
 
+// A block's number, and its column and row where it is known how many blocks a row has.
+#[derive(Clone, Copy)]
+struct Numbered {
+    number: u64,
+    columns: Option<NonZeroU64>,
+}
+
+impl fmt::Display for Numbered {
+    fn fmt<W: fmt::Write>(&self, f: &mut fmt::Formatter<W>) -> fmt::Result {
+        let number = self.number;
+        write!(f, "block {number}")?;
+        if let Some(columns) = self.columns {
+            write!(
+                f,
+                " (column {}, row {})",
+                number % columns,
+                number / columns
+            )?;
+        }
+        Ok(())
+    }
+}
+
 // The line of a block.
 #[derive(Clone, Copy)]
 struct BlockLine {
-    number: u64,
-    reading: Result<Reading, Refusal>,
+    at: Numbered,
+    reading: Option<Reading>,
+    mode: BlockMode,
 }
 
 impl fmt::Display for BlockLine {
     fn fmt<W: fmt::Write>(&self, f: &mut fmt::Formatter<W>) -> fmt::Result {
-        write!(f, "block {}: ", self.number)?;
+        write!(f, "{}: ", self.at)?;
         match self.reading {
-            Ok(reading) => write!(f, "{}", InWords(reading)),
-            Err(Refusal::Reserved) => f.write_str("reserved, its first byte is 0"),
-            // no other refusal is one of a whole block that is read
-            Err(_) => f.write_str("another mode than 1 and 3"),
+            Some(reading) => write!(f, "{}", InWords(reading)),
+            None if self.mode.is_reserved() => f.write_str("reserved, its first byte is 0"),
+            None => write!(f, "{}, which is not read", self.mode),
         }
     }
 }
 
+// How many blocks there are.
+#[derive(Clone, Copy)]
+struct Count(u64);
+
+impl fmt::Display for Count {
+    fn fmt<W: fmt::Write>(&self, f: &mut fmt::Formatter<W>) -> fmt::Result {
+        write!(f, "blocks {}", self.0)
+    }
+}
+
 // The lines of blocks from a number on.
-fn put_blocks(rt: &impl Print, blocks: &[u8], first: u64)
+fn put_blocks(
+    rt: &impl Print,
+    blocks: &[u8],
+    first: u64,
+    columns: Option<NonZeroU64>,
+) -> Result<(), NotSaid>
     requires { first < 1152921504606846976 }
 {
     let mut lines = Lines::new(rt);
     for (number, block) in (first..u64::MAX).zip(blocks.chunks_exact(16)) {
         let mut pixels = [0u8; 48];
-        let reading = block::read(block, &mut pixels);
-        lines.put(BlockLine { number, reading });
+        lines.put(BlockLine {
+            at: Numbered { number, columns },
+            reading: block::read(block, &mut pixels).ok(),
+            mode: BlockMode::of(block[0]),
+        })?;
     }
-    lines.flush();
+    lines.flush()
 }
 
 // Reads the blocks of a plate, so many at a time.
-fn read_plate<'a>(rt: &impl Print, plate: &Plate<'a>) -> Result<(), Failure<'a>> {
+fn read_all<'a>(
+    rt: &impl Print,
+    plate: &Plate<'a>,
+    columns: Option<NonZeroU64>,
+) -> Result<(), Failure<'a>> {
     // Room for the blocks of one part: the program takes no heap.
     let mut all = [0u8; ROW];
     // by the parts' numbers: a `step_by` would want a step of another type than the blocks' numbers
@@ -119,16 +168,67 @@ fn read_plate<'a>(rt: &impl Print, plate: &Plate<'a>) -> Result<(), Failure<'a>>
         // Rust has no From between u64 and usize
         let blocks = &mut all[..n as usize * 16];
         plate.read_blocks(blocks)?;
-        put_blocks(rt, blocks, first);
+        put_blocks(rt, blocks, first, columns)?;
     }
     Ok(())
 }
 
-// Says the fields of each block.
-pub fn read<'a>(rt: &HostRuntime, path: &'a [u8]) -> Result<(), Failure<'a>> {
+// Reads one block of a plate.
+fn read_one<'a>(
+    rt: &impl Print,
+    plate: &Plate<'a>,
+    number: u64,
+    columns: Option<NonZeroU64>,
+) -> Result<(), Failure<'a>> {
+    let has = plate.blocks;
+    if number >= has {
+        return Err(plate.input.failure(PlateMistake::NoBlock { number, has }));
+    }
+    plate.go_to(number)?;
+    let mut block = [0u8; 16];
+    plate.read_blocks(&mut block)?;
+    put_blocks(rt, &block, number, columns)?;
+    Ok(())
+}
+
+// How many blocks a row has where a width is given, of which the plate must have whole rows.
+fn columns_of<'a>(
+    plate: &Plate<'a>,
+    width: Option<Width>,
+) -> Result<Option<NonZeroU64>, Failure<'a>> {
+    let Some(width) = width else {
+        return Ok(None);
+    };
+    let width = width.pixels;
+    let columns = across(width);
+    let has = plate.blocks;
+    // Rust has no From between usize and u64
+    match NonZeroU64::new(columns as u64) {
+        Some(row) if has % row == 0 => Ok(Some(row)),
+        _ => Err(
+            plate.input.failure(PlateMistake::OtherWidth {
+                has,
+                columns,
+                width,
+            }),
+        ),
+    }
+}
+
+// Says the fields of each block, or of one.
+pub fn read<'a>(
+    rt: &HostRuntime,
+    path: &'a [u8],
+    width: Option<Width>,
+    block: Option<u64>,
+) -> Result<(), Failure<'a>> {
     let plate = Plate::open(rt, path)?;
-    read_plate(rt, &plate)?;
-    let _ = println!(rt; "blocks {}", plate.blocks);
-    say_done(rt, path, "read");
+    let columns = columns_of(&plate, width)?;
+    match block {
+        Some(number) => read_one(rt, &plate, number, columns)?,
+        None => read_all(rt, &plate, columns)?,
+    }
+    say_line(rt, Count(plate.blocks))?;
+    say_done(rt, path, "read")?;
     Ok(())
 }

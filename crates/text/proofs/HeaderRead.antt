@@ -2,7 +2,7 @@
 use Prim.Native.Nat.{ℕ, ◌+◌, ◌^◌, ◌<◌, ◌≤◌}
 use native.Mathlib.Numerals.{one-add}
 use native.Mathlib.Omega.{arith}
-use mathlib.Core.Path.{◌≡◌, refl, sym, ap, ◌∙◌}
+use mathlib.Core.Path.{◌≡◌, refl, sym, ap, ap₂, ◌∙◌}
 use mathlib.Core.Bool.{true, false}
 use mathlib.Core.List.{List, [], ◌∷◌, ◌++◌, append_assoc, append-nil}
 use lib.ListN.{length, get_or, drop, length-append}
@@ -17,7 +17,7 @@ use Rattle.text.specs.declared.ppm.HeaderError.TheVariants.{NoWidth, NoHeight, N
 use Rattle.text.specs.Line.{decimal_of}
 use Rattle.text.specs.Decimal.{digits_in}
 use Rattle.text.specs.Ppm.{in_gap, in_comment, gap_in, small_number, field_in, size_fits}
-use Rattle.text.specs.Ppm.{starts_p6, size_in, pixels_in, header_of, header_text}
+use Rattle.text.specs.Ppm.{starts_p6, starts_crlf, size_in, maxval_in, header_of, header_text}
 use Rattle.text.proofs.DecimalText.{AllDigits, numerals, decimal_digits, decimal-some, decimal-length, number-decimal}
 
 -- a digit ends a gap
@@ -123,8 +123,8 @@ module _ (w h : ℕ) where
 
 -- what is written for a picture of any size is read again, whatever follows
 pub header_read : (w h : ℕ) (rest : List ℕ) → 1 ≤ w → w ≤ 16384 → 1 ≤ h → h ≤ 16384 →
-    header_of (header_text w h ++ rest) ≡ Ok (record { width = w; height = h; pixels = length (header_text w h) })
-unfolding header_of size_in pixels_in
+    header_of (header_text w h ++ rest) ≡ Ok (record { width = w; height = h; pixels = length (header_text w h); crlf = false })
+unfolding header_of size_in maxval_in
 header_read w h rest wide narrow high low =
     let bytes = header_text w h ++ rest in
     let named : starts_p6 bytes ≡ true = rw (by_width w h rest) in
@@ -138,7 +138,11 @@ header_read w h rest wide narrow high low =
     let third = field-decimal rest 10 255 10 refl refl refl (omega arith) (drop (length (to_maxval w h)) bytes) NoMaxval OtherMaxval behind in
     let last : get_or (drop (length (to_maxval w h)) bytes) (length (10 ∷ decimal_of 255)) 0 ≡ 10 =
     rw behind (get_or-append_seam (10 ∷ decimal_of 255) 10 rest 0) in
-    let all : length (to_maxval w h) + (length (10 ∷ decimal_of 255) + 1) ≡ length (header_text w h) =
+    let all : length (to_maxval w h) + length (10 ∷ decimal_of 255) + 1 ≡ length (header_text w h) =
     omega (arith, header-length w h, length-append (to_maxval w h) (10 ∷ decimal_of 255)) in
+    let to_e : length (to_maxval w h) + length (10 ∷ decimal_of 255) ≡ length (to_end w h) =
+    sym (length-append (to_maxval w h) (10 ∷ decimal_of 255)) in
+    let feed : starts_crlf (drop (length (to_maxval w h) + length (10 ∷ decimal_of 255)) bytes) ≡ false =
+    rw (to_e, by_end w h rest, drop-append_seam (to_end w h) (10 ∷ rest)) refl in
     rw (named, first, size_fits_lem w wide narrow, to_h, second, size_fits_lem h high low, to_m, third, last)
-    (ap (λ n. Ok (record { width = w; height = h; pixels = n })) all)
+    (ap₂ (λ n c. Ok (record { width = w; height = h; pixels = n; crlf = c })) all feed)

@@ -5,7 +5,7 @@ use mathlib.Core.Path.{◌≡◌}
 use mathlib.Core.List.{List, [], ◌∷◌, ◌++◌, append_assoc}
 use lib.ListN.{length, length-append}
 use borrow.Author.Tests.{lt-ltb, le-leb}
-use Rattle.text.specs.Line.{with_text, decimal_of, thousandths_of}
+use Rattle.text.specs.Line.{with_text, decimal_of, thousandths_of, hundredths_of}
 use Rattle.text.specs.Ppm.{header_text}
 use Rattle.text.proofs.DecimalText.{decimal-length}
 
@@ -22,7 +22,7 @@ digit_text : (n : ℕ) → n < 10 → decimal_of n ≡ (48 + n) ∷ []
 unfolding decimal_of
 digit_text n h = rw (lt-ltb n 10 h)
 
--- a number of thousandths: its whole part, the point and its places
+-- the text of a number of thousandths: its whole part, the point and three places
 pub thousandths_put : (n : ℕ) → n < 2 ^ 64 →
     with_text 24 (with_text 24 (with_text 24 (with_text 24 (with_text 24 [] (decimal_of (n / 1000))) (46 ∷ [])) (decimal_of (n / 100 % 10)))
     (decimal_of (n / 10 % 10)))
@@ -43,6 +43,24 @@ thousandths_put n h =
       put_fits 24 (whole ++ (46 ∷ [])) (tenths ∷ []) (rw length-append (omega arith)),
       put_fits 24 ((whole ++ (46 ∷ [])) ++ (tenths ∷ [])) (hundredths ∷ []) (simp length-append (omega arith)),
       put_fits 24 (((whole ++ (46 ∷ [])) ++ (tenths ∷ [])) ++ (hundredths ∷ [])) ((48 + n % 10) ∷ []) (simp length-append (omega arith)),
+    ) (simp append_assoc)
+
+-- the text of a number of hundredths: its whole part, the point and two places
+pub hundredths_put : (n : ℕ) → n < 2 ^ 64 →
+    with_text 24 (with_text 24 (with_text 24 (with_text 24 [] (decimal_of (n / 100))) (46 ∷ [])) (decimal_of (n / 10 % 10))) (decimal_of (n % 10))
+    ≡ hundredths_of n
+unfolding hundredths_of
+hundredths_put n h =
+    let d = digits_twenty (n / 100) (omega arith) in
+    let whole = decimal_of (n / 100) in
+    let tenths : ℕ = 48 + n / 10 % 10 in
+    rw (
+      digit_text (n / 10 % 10) (omega arith),
+      digit_text (n % 10) (omega arith),
+      put_fits 24 [] whole (omega arith),
+      put_fits 24 whole (46 ∷ []) (omega arith),
+      put_fits 24 (whole ++ (46 ∷ [])) (tenths ∷ []) (rw length-append (omega arith)),
+      put_fits 24 ((whole ++ (46 ∷ [])) ++ (tenths ∷ [])) ((48 + n % 10) ∷ []) (simp length-append (omega arith)),
     ) (simp append_assoc)
 
 -- the header of a picture: its name, width, a space, height, and the end

@@ -22,3 +22,7 @@ places_of n = 46 ∷ (48 + n / 100 % 10) ∷ (48 + n / 10 % 10) ∷ (48 + n % 10
 -- a number of thousandths as a decimal: 3750 is 3.750
 unfoldable pub thousandths_of : ℕ → List ℕ
 thousandths_of n = decimal_of (n / 1000) ++ places_of n
+
+-- a number of hundredths as a decimal: 4711 is 47.11
+unfoldable pub hundredths_of : ℕ → List ℕ
+hundredths_of n = decimal_of (n / 100) ++ (46 ∷ (48 + n / 10 % 10) ∷ (48 + n % 10) ∷ [])

@@ -59,18 +59,21 @@ unfoldable pub size_in : List ℕ → HeaderError → HeaderError → Result Fie
 size_in bs missing outside =
     and_then (field_in bs missing outside) (λ size. pick (size_fits size.value) (Ok size) (Err outside))
 
--- how many bytes stand before the pixels, the maxval and one white space, or the mistake of the maxval: that it is missing, that it is not
--- 255, or that no white space is behind it
-unfoldable pub pixels_in : List ℕ → Result ℕ HeaderError
-pixels_in bs =
+-- how many bytes the maxval takes with its gap, or its mistake: that it is missing, that it is not 255, or that no white space is behind it
+unfoldable pub maxval_in : List ℕ → Result ℕ HeaderError
+maxval_in bs =
     and_then (field_in bs NoMaxval OtherMaxval) (λ maxval.
     pick (eqb maxval.value 255)
-    (pick (is_space (get_or bs maxval.len 0)) (Ok (maxval.len + 1)) (Err NoPixels))
+    (pick (is_space (get_or bs maxval.len 0)) (Ok maxval.len) (Err NoPixels))
     (Err OtherMaxval))
 
 -- whether the bytes begin with P6
 abbrev pub starts_p6 : List ℕ → Bool
 starts_p6 bs = pick (eqb (get_or bs 0 0) 80) (eqb (get_or bs 1 0) 54) false
+
+-- whether bytes begin with a carriage return and a line feed
+abbrev pub starts_crlf : List ℕ → Bool
+starts_crlf bs = pick (eqb (get_or bs 0 0) 13) (eqb (get_or bs 1 0) 10) false
 
 -- the header at the start of a file's bytes, or its first mistake: P6, and then width, height and maxval, each behind the one before
 unfoldable pub header_of : List ℕ → Result Header HeaderError
@@ -78,8 +81,13 @@ header_of bs =
     pick (starts_p6 bs)
     (and_then (size_in (drop 2 bs) NoWidth WidthOutside) (λ width.
     and_then (size_in (drop (2 + width.len) bs) NoHeight HeightOutside) (λ height.
-    and_then (pixels_in (drop (2 + width.len + height.len) bs)) (λ maxval.
-    Ok (record { width = width.value; height = height.value; pixels = 2 + width.len + height.len + maxval })))))
+    and_then (maxval_in (drop (2 + width.len + height.len) bs)) (λ maxval.
+    Ok (record {
+      width = width.value;
+      height = height.value;
+      pixels = 2 + width.len + height.len + maxval + 1;
+      crlf = starts_crlf (drop (2 + width.len + height.len + maxval) bs);
+    })))))
     (Err NoName)
 
 -- what is said of a mistake

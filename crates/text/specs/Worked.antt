@@ -1,7 +1,7 @@
 -- Rows worked by hand, in plain bytes.
-use Rattle.std.specs.Prelude.{◌≡◌, [], ◌∷◌, None, Some, Ok, Err}
+use Rattle.std.specs.Prelude.{◌≡◌, true, false, [], ◌∷◌, None, Some, Ok, Err}
 use Rattle.text.specs.declared.ppm.HeaderError.TheVariants.{NoPixels}
-use Rattle.text.specs.Line.{with_text, decimal_of, thousandths_of}
+use Rattle.text.specs.Line.{with_text, decimal_of, thousandths_of, hundredths_of}
 use Rattle.text.specs.Decimal.{number_in}
 use Rattle.text.specs.Words.{word_of}
 use Rattle.text.specs.Ppm.{header_of, header_text}
@@ -20,6 +20,10 @@ pub record Worked : Type 0 where
   pub whole_and_places : thousandths_of 1265 ≡ 49 ∷ 46 ∷ 50 ∷ 54 ∷ 53 ∷ []
   -- 7 thousandths are "0.007"
   pub places_alone : thousandths_of 7 ≡ 48 ∷ 46 ∷ 48 ∷ 48 ∷ 55 ∷ []
+  -- 4711 hundredths are "47.11"
+  pub hundredths : hundredths_of 4711 ≡ 52 ∷ 55 ∷ 46 ∷ 49 ∷ 49 ∷ []
+  -- 5 hundredths are "0.05"
+  pub hundredths_alone : hundredths_of 5 ≡ 48 ∷ 46 ∷ 48 ∷ 53 ∷ []
   -- "120" is 120
   pub number : number_in (49 ∷ 50 ∷ 48 ∷ []) ≡ Some 120
   -- "042" is 42
@@ -35,11 +39,23 @@ pub record Worked : Type 0 where
   -- the same read: pixels from byte 13 on
   pub header-taken :
       header_of (80 ∷ 54 ∷ 10 ∷ 54 ∷ 52 ∷ 32 ∷ 52 ∷ 56 ∷ 10 ∷ 50 ∷ 53 ∷ 53 ∷ 10 ∷ [])
-      ≡ Ok (record { width = 64; height = 48; pixels = 13 })
+      ≡ Ok (record { width = 64; height = 48; pixels = 13; crlf = false })
   -- P6, a comment "# 9 9", a line feed, "4 2", a line feed, "255", a line feed: 4 by 2, with pixels from byte 16 on
   pub comment-skipped :
       header_of (80 ∷ 54 ∷ 35 ∷ 32 ∷ 57 ∷ 32 ∷ 57 ∷ 10 ∷ 52 ∷ 32 ∷ 50 ∷ 10 ∷ 50 ∷ 53 ∷ 53 ∷ 10 ∷ 0 ∷ [])
-      ≡ Ok (record { width = 4; height = 2; pixels = 16 })
+      ≡ Ok (record { width = 4; height = 2; pixels = 16; crlf = false })
+  -- P6, a space, "4 2 255", a carriage return and a line feed: pixels from byte 11 on, the line feed
+  pub crlf-seen :
+      header_of (80 ∷ 54 ∷ 32 ∷ 52 ∷ 32 ∷ 50 ∷ 32 ∷ 50 ∷ 53 ∷ 53 ∷ 13 ∷ 10 ∷ [])
+      ≡ Ok (record { width = 4; height = 2; pixels = 11; crlf = true })
+  -- P6, a space, "4 2 255" and a carriage return alone: pixels from byte 11 on
+  pub return_alone :
+      header_of (80 ∷ 54 ∷ 32 ∷ 52 ∷ 32 ∷ 50 ∷ 32 ∷ 50 ∷ 53 ∷ 53 ∷ 13 ∷ [])
+      ≡ Ok (record { width = 4; height = 2; pixels = 11; crlf = false })
+  -- P6, a space, "4 2 255" and two line feeds: pixels from byte 11 on, the second line feed
+  pub two_feeds :
+      header_of (80 ∷ 54 ∷ 32 ∷ 52 ∷ 32 ∷ 50 ∷ 32 ∷ 50 ∷ 53 ∷ 53 ∷ 10 ∷ 10 ∷ [])
+      ≡ Ok (record { width = 4; height = 2; pixels = 11; crlf = false })
   -- P6, a space, "4 2 255" and no more: no white space behind the maxval
   pub cut_off :
       header_of (80 ∷ 54 ∷ 32 ∷ 52 ∷ 32 ∷ 50 ∷ 32 ∷ 50 ∷ 53 ∷ 53 ∷ []) ≡ Err NoPixels

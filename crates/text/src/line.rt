@@ -1,6 +1,6 @@
 // Text in fixed memory, put together piece by piece, and numbers as text.
 ghost use Rattle.std.specs.Prelude.{◌≡◌, ◌+◌, ◌≤◌, ◌↔◌, [], ◌++◌, length, IsOk, OnErr, Some};
-ghost use Rattle.text.specs.Line.{with_text, decimal_of, thousandths_of};
+ghost use Rattle.text.specs.Line.{with_text, decimal_of, thousandths_of, hundredths_of};
 
 use arrayvec::ArrayVec;
 use std::fmt;
@@ -110,6 +110,34 @@ impl Thousandths {
 
 impl fmt::Display for Thousandths {
     ghost output = { λ n. Some (thousandths_of n.0) };
+
+    fn fmt<W: fmt::Write>(&self, f: &mut fmt::Formatter<W>) -> fmt::Result {
+        self.text().fmt(f)
+    }
+}
+
+// A number of hundredths, which is written with two places after the point: 47.11 for 4711.
+#[derive(Clone, Copy, Debug, PartialEq, Eq)]
+pub struct Hundredths(pub u64);
+
+impl Hundredths {
+    // The number as text. The places are put one by one, since a `write!` with `{:02}` can fail and this cannot.
+    #[tactic(auto, using(crate::proofs::PiecesText::hundredths_put))]
+    pub fn text(self) -> Line<24>
+        ensures { result ≡ hundredths_of self.0 }
+    {
+        let n = self.0;
+        let mut line = Line::new();
+        line.put_number(n / 100);
+        line.put(b".");
+        line.put_number(n / 10 % 10);
+        line.put_number(n % 10);
+        line
+    }
+}
+
+impl fmt::Display for Hundredths {
+    ghost output = { λ n. Some (hundredths_of n.0) };
 
     fn fmt<W: fmt::Write>(&self, f: &mut fmt::Formatter<W>) -> fmt::Result {
         self.text().fmt(f)

@@ -1,7 +1,7 @@
 // The header of a binary PPM picture, Netpbm's P6.
-ghost use Rattle.std.specs.Prelude.{◌≡◌, ◌≤◌, false, length, IfOk, IsTrue, Some};
+ghost use Rattle.std.specs.Prelude.{◌≡◌, ◌<◌, ◌≤◌, false, length, IfOk, IsTrue, Some};
 ghost use Rattle.text.specs.Ppm.{is_space, in_gap, in_comment, gap_in, small_number, field_in, size_fits};
-ghost use Rattle.text.specs.Ppm.{mistake_text, size_in, pixels_in, starts_p6, header_of, SizesRead, header_text};
+ghost use Rattle.text.specs.Ppm.{mistake_text, size_in, maxval_in, starts_p6, starts_crlf, header_of, SizesRead, header_text};
 
 use crate::decimal::{digits_in, number};
 use crate::line::Line;
@@ -15,6 +15,8 @@ pub struct Header {
     pub height: usize,
     // The place of the first pixel's first byte.
     pub pixels: usize,
+    // Whether the white space before it is a carriage return and the byte there a line feed, as where a file's line ends were rewritten.
+    pub crlf: bool,
 }
 
 // What is wrong with a header: that a part is missing, that a size is not 1 to 16384, or that the greatest value is not 255.
@@ -155,18 +157,18 @@ fn size_in(bytes: &[u8], missing: HeaderError, outside: HeaderError) -> Result<F
     Ok(size)
 }
 
-// How many bytes the maxval at the front takes, with the white space before it and one behind it.
-#[tactic(auto, unfolding(crate::specs::Ppm::pixels_in))]
-fn pixels_in(bytes: &[u8]) -> Result<usize, HeaderError>
-    ensures says { result ≡ pixels_in bytes.now }
-    ensures inside { IfOk result (λ len. len ≤ length bytes.now) }
+// How many bytes the maxval at the front takes, with the white space before it; there is one behind it.
+#[tactic(auto, unfolding(crate::specs::Ppm::maxval_in))]
+fn maxval_in(bytes: &[u8]) -> Result<usize, HeaderError>
+    ensures says { result ≡ maxval_in bytes.now }
+    ensures inside { IfOk result (λ len. len < length bytes.now) }
 {
     let maxval = field_in(bytes, HeaderError::NoMaxval, HeaderError::OtherMaxval)?;
     if maxval.value != 255 {
         return Err(HeaderError::OtherMaxval);
     }
     match bytes.get(maxval.len) {
-        Some(byte) if is_space(*byte) => Ok(maxval.len + 1),
+        Some(byte) if is_space(*byte) => Ok(maxval.len),
         _ => Err(HeaderError::NoPixels),
     }
 }
@@ -177,6 +179,13 @@ fn starts_p6(bytes: &[u8]) -> bool
     ensures long { IsTrue result → 2 ≤ length bytes.now }
 {
     bytes.starts_with(b"P6")
+}
+
+// Whether bytes begin with a carriage return and a line feed.
+fn starts_crlf(bytes: &[u8]) -> bool
+    ensures { result ≡ starts_crlf bytes.now }
+{
+    bytes.starts_with(b"\r\n")
 }
 
 impl Header {
@@ -197,11 +206,12 @@ impl Header {
             HeaderError::HeightOutside,
         )?;
         let at = at + height.len;
-        let maxval = pixels_in(&bytes[at..])?;
+        let at = at + maxval_in(&bytes[at..])?;
         Ok(Header {
             width: width.value,
             height: height.value,
-            pixels: at + maxval,
+            pixels: at + 1,
+            crlf: starts_crlf(&bytes[at..]),
         })
     }
 }

@@ -6,5 +6,6 @@ use Rattle.figures.proofs.Figures.counted_row.Given as goal
 abbrev pub invariant-loop-error : goal.invariant-loop-error
 invariant-loop-error l =
     (counted_all l.figures (drop l.error-index l.errors) ≡ counted_all l.initial.figures l.errors)
-    × (l.figures.total ≤ l.row * 17592186044416 + l.error-index * 4294967295)
+    × (l.figures.block_errors ≤ l.row * 17592186044416 + l.error-index * 4294967295)
     × (l.figures.blocks ≤ l.row * 4096 + l.error-index)
+    × (l.figures.place ≤ l.row * 4096 + l.error-index)

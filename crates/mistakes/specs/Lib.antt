@@ -1,0 +1,2 @@
+pub mod Unreadable
+pub mod Counts

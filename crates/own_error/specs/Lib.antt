@@ -1,0 +1,3 @@
+pub mod Own
+pub mod OwnTotal
+pub mod Worked

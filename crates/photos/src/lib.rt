@@ -1,0 +1,5 @@
+// Photographs that are read, and pictures that are written.
+#![tactic(auto)]
+
+pub mod photo;
+pub mod picture;

@@ -1,0 +1,3 @@
+pub mod Mean
+pub mod Psnr
+pub mod Worked

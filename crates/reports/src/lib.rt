@@ -1,0 +1,5 @@
+// The figures of a plate, counted row of blocks by row of blocks, and in words.
+#![tactic(auto)]
+
+pub mod report;
+pub mod tally;

@@ -1,0 +1,2 @@
+pub mod Shade
+pub mod Worked
