@@ -206,6 +206,9 @@ def names_wrong(held):
             ("show", "small.bc7", name, 3, "old.ppm"),
             ("show", "small.bc7", *SMALL, name),
             ("map", "small.ppm", "small.bc7", name),
+            ("help", "nosuch", name),
+            ("nosuch", name),
+            ("nosuch", "--help", name),
         ):
             held.refused("bc7", *words, why="empty or longer than")
     os.symlink("small.ppm", held.path("link"))

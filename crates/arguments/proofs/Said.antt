@@ -10,7 +10,7 @@ use Rattle.arguments.specs.declared.numbers.Width.{Width}
 use Rattle.arguments.specs.declared.options.Options.{Options}
 use Rattle.arguments.specs.declared.options.OptionName.TheVariants as option
 use Rattle.arguments.specs.declared.command.Shown.{Shown}
-use Rattle.arguments.specs.declared.command.Shown.TheVariants.{Table, Worst, Total, Csv}
+use Rattle.arguments.specs.declared.command.Shown.TheVariants.{Table, Worst, Both, Total, Csv}
 use Rattle.arguments.specs.Line.{numbers_at}
 use Rattle.arguments.specs.Options.{AllGiven}
 use Rattle.arguments.specs.Commands.{Shows, RowsSaid, ShownSaid, ScaleSaid, NumberSaid}
@@ -27,6 +27,7 @@ shown_said Table options words given shows =
     (rw shows.0 at (sym (given option.Worst)), rw shows.1 at (sym (given option.Total)), rw shows.2 at (sym (given option.Csv)))
 shown_said (Worst n) options words given shows =
     (rw shows.0 at (sym (given option.Worst)), rw shows.1 at (sym (given option.Total)), rw shows.2 at (sym (given option.Csv)))
+shown_said (Both n) options words given shows = elim shows [ ]
 shown_said Total options words given shows =
     (rw shows.0 at (sym (given option.Worst)), rw shows.1 at (sym (given option.Total)), rw shows.2 at (sym (given option.Csv)))
 shown_said Csv options words given shows =

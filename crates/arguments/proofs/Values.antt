@@ -14,7 +14,7 @@ use Rattle.lists.proofs.Tests.{and-true}
 use Rattle.shades.specs.declared.Scale.TheVariants.{SquareRoot, Linear}
 use Rattle.arguments.specs.declared.command.Command.{Command}
 use Rattle.arguments.specs.declared.command.Command.TheVariants.{Bake, Measure, Read, Show, Map, Help, Version}
-use Rattle.arguments.specs.declared.command.Shown.TheVariants.{Table, Worst, Total, Csv}
+use Rattle.arguments.specs.declared.command.Shown.TheVariants.{Table, Worst, Both, Total, Csv}
 use Rattle.arguments.specs.declared.names.Name.{Name}
 use Rattle.arguments.specs.Line.{option_form, numbers_behind, options_from, options_of, is_among, each_once, behind_from, numbers_at}
 use Rattle.arguments.specs.Options.{own_options}
@@ -103,6 +103,7 @@ said_once (Measure photo plate Table) name words said once =
 said_once (Measure photo plate (Worst n)) name words said once =
     not_given (codes "--total") (codes "--worst" ∷ []) [] words refl said.2.1
     (not_given (codes "--csv") (codes "--worst" ∷ codes "--total" ∷ []) [] words refl said.2.2 (rw said.0 at once))
+said_once (Measure photo plate (Both n)) name words said once = elim said.2 [ ]
 said_once (Measure photo plate Total) name words said once =
     not_given (codes "--worst") [] (codes "--total" ∷ []) words refl said.2.0
     (not_given (codes "--csv") (codes "--worst" ∷ codes "--total" ∷ []) [] words refl said.2.2 (rw said.0 at once))

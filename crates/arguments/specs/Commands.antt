@@ -10,7 +10,7 @@ use Rattle.arguments.specs.declared.command.Command.{Command}
 use Rattle.arguments.specs.declared.command.Command.TheVariants.{Bake, Measure, Read, Show, Map, Help, Version}
 use Rattle.arguments.specs.declared.options.Options.{Options}
 use Rattle.arguments.specs.declared.command.Shown.{Shown}
-use Rattle.arguments.specs.declared.command.Shown.TheVariants.{Table, Worst, Total, Csv}
+use Rattle.arguments.specs.declared.command.Shown.TheVariants.{Table, Worst, Both, Total, Csv}
 use Rattle.shades.specs.declared.Scale.{Scale}
 use Rattle.shades.specs.declared.Scale.TheVariants.{SquareRoot, Linear}
 use Rattle.sizes.specs.declared.rows.Rows.{Rows}
@@ -25,10 +25,11 @@ Names names.Show word = word ≡ codes "show"
 Names names.Map word = word ≡ codes "map"
 Names names.Help word = (word ≡ codes "help") ⊎ (word ≡ codes "-h") ⊎ (word ≡ codes "--help")
 
--- what is shown by the options that are given
+-- what is shown by the options that are given: no options have the table and the worst blocks shown
 abbrev pub Shows : Shown → Options → Type 0
 Shows Table options = (options.worst ≡ None) × (options.total ≡ false) × (options.csv ≡ false)
 Shows (Worst n) options = (options.worst ≡ Some n) × (options.total ≡ false) × (options.csv ≡ false)
+Shows (Both n) options = ⊥
 Shows Total options = (options.worst ≡ None) × (options.total ≡ true) × (options.csv ≡ false)
 Shows Csv options = (options.worst ≡ None) × (options.total ≡ false) × (options.csv ≡ true)
 
@@ -36,7 +37,7 @@ Shows Csv options = (options.worst ≡ None) × (options.total ≡ false) × (op
 abbrev pub RowsSaid : Option Rows → List (List ℕ) → Type 0
 RowsSaid rows words = numbers_at (codes "--rows") words ≡ option_map (λ r. Some r.from ∷ Some r.count ∷ []) rows
 
--- what is shown is what the one of --worst, --total and --csv says that stands there
+-- what is shown is what the one of --worst, --total and --csv says that stands there: no words have the table and the worst blocks shown
 abbrev pub ShownSaid : Shown → List (List ℕ) → Type 0
 ShownSaid Table words =
     (numbers_at (codes "--worst") words ≡ None)
@@ -44,6 +45,7 @@ ShownSaid Table words =
 ShownSaid (Worst n) words =
     (numbers_at (codes "--worst") words ≡ Some (Some n.count ∷ []))
     × (numbers_at (codes "--total") words ≡ None) × (numbers_at (codes "--csv") words ≡ None)
+ShownSaid (Both n) words = ⊥
 ShownSaid Total words =
     (numbers_at (codes "--worst") words ≡ None)
     × (numbers_at (codes "--total") words ≡ Some []) × (numbers_at (codes "--csv") words ≡ None)
@@ -92,6 +94,7 @@ abbrev pub options_said : Command → List (List ℕ)
 options_said (Bake rows photo plate proposals) = with_some rows (codes "--rows") []
 options_said (Measure photo plate Table) = []
 options_said (Measure photo plate (Worst n)) = codes "--worst" ∷ []
+options_said (Measure photo plate (Both n)) = codes "--worst" ∷ []
 options_said (Measure photo plate Total) = codes "--total" ∷ []
 options_said (Measure photo plate Csv) = codes "--csv" ∷ []
 options_said (Read plate width block) = with_some width (codes "--width") (with_some block (codes "--block") [])

@@ -16,11 +16,13 @@ use shades::Scale;
 use sizes::rows::Rows;
 use sizes::size::Size;
 
-// What `measure` says: a line for each block, one for each of the worst, the figures alone, or lines with commas between.
+// What `measure` says: a line for each block, one for each of the worst, the one and then the other, which no command line asks for, the
+// figures alone, or lines with commas between.
 #[derive(Clone, Copy, Debug, PartialEq, Eq)]
 pub enum Shown {
     Table,
     Worst(Worst),
+    Both(Worst),
     Total,
     Csv,
 }
@@ -286,7 +288,7 @@ fn check_words<'a>(words: &[&'a [u8]]) -> Result<(), Misuse<'a>>
 
 impl<'a> Command<'a> {
     // The command of a line's words, of which the first is its name. `-h` or `--help` behind a name asks for the help of that command,
-    // whatever else stands there.
+    // whatever else stands there. Behind a word that is no command an empty word is refused first.
     pub fn parse(words: &[&'a [u8]]) -> Result<Command<'a>, Misuse<'a>>
         ensures { IfOk result (λ command. Says command words.now) }
     {
@@ -298,7 +300,13 @@ impl<'a> Command<'a> {
         if let b"--version" = word {
             return parse_version(word, behind);
         }
-        let name = command_name(word)?;
+        let name = match command_name(word) {
+            Ok(name) => name,
+            Err(misuse) => {
+                check_words(behind)?;
+                return Err(misuse);
+            }
+        };
         if asks_help(behind) {
             return Ok(Command::Help(Some(name)));
         }

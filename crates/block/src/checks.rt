@@ -57,7 +57,7 @@ pub(crate) fn check_stored<M: Mode>(partition: u8, ends: &[Rgb; 4], p: PBits) ->
 }
 
 // The mode, and then what `check_stored` checks.
-fn check_candidate(c: Candidate) -> Result<(), Refusal>
+pub fn check_candidate(c: Candidate) -> Result<(), Refusal>
     ensures { declined result ≡ check_candidate c 0 }
 {
     // by number, as any is handed in: the form that the specification names

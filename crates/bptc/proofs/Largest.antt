@@ -21,3 +21,8 @@ top_of zero i h l = absurd (omega arith)
 top_of (suc w) i h l =
     let e : suc w - 1 ≡ w = omega arith in
     rw e (omega (arith, rw e at l, pow-suc 2 w, pow_pos w))
+
+-- an index with its top bit set, taken from the largest, has its top bit 0
+pub top_turned : (m : Mode) → 0 < m.index_bits → (i : ℕ) → 2 ^ (m.index_bits - 1) ≤ i → largest m - i < 2 ^ (m.index_bits - 1)
+unfolding largest
+top_turned m some i l = top_of m.index_bits i some l

@@ -1,19 +1,20 @@
 -- Laws of a palette, by two stored endpoints and their own p-bits: its colours are bytes, opaque where the mode has no alpha, and the same
--- at the mirrored index of the palette seen from its other end.
+-- at the mirrored index of the palette seen from its other end, or after the endpoints changed places.
 use Prim.Native.Nat.{ℕ, zero, suc, ◌-◌, ◌/◌, ◌^◌, ◌≤◌, ◌<◌}
 use native.Mathlib.Nat.{mod-lt}
 use native.Mathlib.Omega.{arith}
 use mathlib.Core.Path.{◌≡◌, refl, ap, ap₂, ◌∙◌}
 use mathlib.Core.Bool.{Bool, true, false}
+use mathlib.Core.List.{List}
 use lib.Dec.{ltb}
 use borrow.Author.Tests.{ltb-true, le-ltb}
 use Rattle.lists.specs.Tests.{pick}
 use Rattle.bptc.specs.Mode.{Mode, weight, largest}
-use Rattle.bptc.specs.Colour.{Rgba, channel}
-use Rattle.bptc.specs.Shown.{own_bit, shown_by, end_by, end_shown}
-use Rattle.bptc.specs.Palette.{between, shade, palette_of}
+use Rattle.bptc.specs.Colour.{Rgba, channel, stored}
+use Rattle.bptc.specs.Shown.{own, own_bit, shown_by, end_by, end_shown}
+use Rattle.bptc.specs.Palette.{between, shade, palette_of, end_of, palette_at}
 use Rattle.bptc.proofs.Modes.{Shades}
-use Rattle.bptc.proofs.Colours.{channel_by}
+use Rattle.bptc.proofs.Colours.{channel_by, end_same}
 use Rattle.bptc.proofs.Shading.{between_mirror, between-byte}
 use Rattle.bptc.proofs.Pixels.{Shown}
 
@@ -23,6 +24,16 @@ unfolding shade
 shade_mirror m shades a b i h =
     let w : weight m i ≤ 64 = shades.light i h in
     rw (shades.mirror i h) (simp between_mirror)
+
+-- so two endpoints that change places, with their p-bits, mirror their palette: they need agree only in what the mode stores
+pub exchange_mirror : (m : Mode) → Shades m → (es fs : List Rgba) (p q s : ℕ) →
+    stored m (end_of es s 0) ≡ stored m (end_of fs s 1) → stored m (end_of es s 1) ≡ stored m (end_of fs s 0) →
+    own_bit m.own_bits (own m p s) 0 ≡ own_bit m.own_bits (own m q s) 1 → own_bit m.own_bits (own m p s) 1 ≡ own_bit m.own_bits (own m q s) 0 →
+    (i : ℕ) → i ≤ largest m → palette_at m es p s (largest m - i) ≡ palette_at m fs q s i
+unfolding palette_of
+exchange_mirror m shades es fs p q s low high low_bit high_bit i h =
+    ap₂ (λ (a b : Rgba). shade m a b (largest m - i)) (end_same m _ _ _ _ shades.seen low low_bit) (end_same m _ _ _ _ shades.seen high high_bit)
+    ∙ shade_mirror m shades (end_shown m (own m q s) 0 (end_of fs s 0)) (end_shown m (own m q s) 1 (end_of fs s 1)) i h
 
 -- a channel between two
 pub shade_channel : (m : Mode) (a b : Rgba) (i j : ℕ) → j < 4 → channel j (shade m a b i) ≡ between (weight m i) (channel j a) (channel j b)

@@ -1,19 +1,18 @@
 -- After `compressed` every pixel has its colour and every anchor's index its top bit 0; what a block holds stays as it is; and the
 -- subsets exchanged one after the other, in any order, give the same.
-use Prim.Native.Nat.{ℕ, zero, suc, ◌-◌, ◌^◌, ◌≤◌, ◌<◌}
-use native.Mathlib.Nat.{pow-suc}
+use Prim.Native.Nat.{ℕ, ◌-◌, ◌^◌, ◌≤◌, ◌<◌}
 use native.Mathlib.Omega.{arith}
 use mathlib.Core.Path.{◌≡◌, refl, sym, ap, ◌∙◌, subst}
 use mathlib.Core.Bool.{Bool, true, false}
 use mathlib.Core.List.{List, [], ◌∷◌}
 use lib.Dec.{eqb, leb, T}
 use lib.ListN.{get_or}
-use lib.Pow.{pow_pos}
 use borrow.Author.Tests.{leb-true, leb-false, lt-leb, eqb-true, eq-eqb}
 use Rattle.lists.specs.Tests.{and, or}
 use Rattle.lists.proofs.Tables.{any}
 use Rattle.bptc_block.specs.Fields.{BlockFields}
 use Rattle.bptc.specs.Mode.{Mode, largest}
+use Rattle.bptc.proofs.Largest.{top_turned}
 use Rattle.bptc.specs.Partition.{subset_in, anchor_in}
 use Rattle.bptc_block.specs.Fields.{Plain, Clean, WellFormed, index_width}
 use Rattle.bptc_block.specs.Chapter.{colour_at}
@@ -24,16 +23,9 @@ use Rattle.bptc_block.proofs.Widths.{plain_of, index-fits}
 use Rattle.bptc_block.proofs.OwnBits.{either}
 use Rattle.bptc_block.proofs.Swapped.{swapped-index, swapped-colour, swapped-clean, swapped_plain, swapped_none, swapped_same, swapped-again}
 
-top_of : (w i : ℕ) → 0 < w → 2 ^ (w - 1) ≤ i → 2 ^ w - 1 - i < 2 ^ (w - 1)
-top_of zero i h l = absurd (omega arith)
-top_of (suc w) i h l =
-    let e : suc w - 1 ≡ w = omega arith in
-    rw e (omega (arith, rw e at l, pow-suc 2 w, pow_pos w))
-
 -- an index with its top bit set, taken from the largest, has its top bit 0
 pub top_swapped : (m : Mode) → Lawful m → (i : ℕ) → 2 ^ (m.index_bits - 1) ≤ i → largest m - i < 2 ^ (m.index_bits - 1)
-unfolding largest
-top_swapped m law i l = top_of m.index_bits i law.bits l
+top_swapped m law i l = top_turned m law.bits i l
 
 module _ (m : Mode) (law : Lawful m) (f : BlockFields) (plain : Plain m f) where
   -- the index of subset s's anchor

@@ -1,4 +1,4 @@
--- Laws of a block's bytes: reading what was packed reswaps the fields and the mode, and packing what was read reswaps the block.
+-- Laws of a block's bytes: reading what was packed returns the fields and the mode, and packing what was read returns the block.
 use Prim.Native.Nat.{ℕ, suc, ◌+◌, ◌-◌, ◌%◌, ◌^◌, ◌<◌}
 use native.Mathlib.Nat.{sub-add_cancel, mod-lt}
 use native.Mathlib.Numerals.{add-one}
@@ -34,12 +34,12 @@ packed-bytes m f = bytes-bytes 16 (join (widths m f.partition) (values m f))
 low_byte : (n k : ℕ) → k < 8 → n % 256 % 2 ^ suc k ≡ n % 2 ^ suc k
 low_byte n k h = rw (sub-add_cancel {n = 8} {m = suc k} h) at (mod-mod-pow n (8 - suc k) (suc k))
 
-mode_of_number : (n k : ℕ) → k < 8 → n % 2 ^ suc k ≡ 2 ^ k → mode_of (bytes 16 n) ≡ k
+pub mode_of_number : (n k : ℕ) → k < 8 → n % 2 ^ suc k ≡ 2 ^ k → mode_of (bytes 16 n) ≡ k
 unfolding mode_of bytes split
 mode_of_number n k h e = zeros_of 8 k (n % 256) h (rw low_byte e)
 
 -- and back: the first field of a block of that mode
-number_of_mode : (n k : ℕ) → k < 8 → mode_of (bytes 16 n) ≡ k → n % 2 ^ suc k ≡ 2 ^ k
+pub number_of_mode : (n k : ℕ) → k < 8 → mode_of (bytes 16 n) ≡ k → n % 2 ^ suc k ≡ 2 ^ k
 unfolding mode_of bytes split
 number_of_mode n k h e = rw (← low_byte n k h, ← e) (low_of 8 (n % 256) (rw e h))
 
@@ -87,7 +87,7 @@ module _ (m : Mode) (law : Lawful m) where
     pub split-packed : split (widths m f.partition) (number (packed m f)) ≡ values m f
     split-packed = rw number-packed (split-join (fits-values m law f w))
 
-    -- reading what was packed reswaps the fields
+    -- reading what was packed returns the fields
     pub fields-packed : fields_of m (packed m f) ≡ f
     unfolding fields_of values
     fields-packed =
@@ -107,7 +107,7 @@ module _ (m : Mode) (law : Lawful m) where
         values-made m law _ (split-length (partition_in m (number block)) (number block))
         (rw first_field (number_of_mode (number block) m.number law.low (rw (sixteen-bytes block sixteen bs) mode)))
 
-    -- packing what was read reswaps the block
+    -- packing what was read returns the block
     pub packed-fields : packed m (fields_of m block) ≡ block
     unfolding packed
     packed-fields =

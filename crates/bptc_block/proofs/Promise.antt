@@ -19,7 +19,7 @@ use Rattle.bptc_block.proofs.ReadCall.{readable, measure-answer}
 use Rattle.bptc_block.proofs.FinishCall.{finish-answer, finish-block, finish-pixels, finish_known, finish_good}
 
 -- the greatest error of a candidate that its checks accept
-error_small : (px : List ℕ) (c : Candidate) → Good (rgba_candidate c) → Bytes px → (finish px c).error ≤ 3121200
+pub error_small : (px : List ℕ) (c : Candidate) → Good (rgba_candidate c) → Bytes px → (finish px c).error ≤ 3121200
 unfolding finished_by
 error_small px c good bytes =
     apart_small (mode_numbered c.mode) (lawful c.mode) (pixels_of 3 px) (fields_by squared_distance (pixels_of 3 px) (rgba_candidate c))

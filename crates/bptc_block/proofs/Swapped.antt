@@ -1,4 +1,4 @@
--- Subsets swapped: no pixel's colour changes, the fields stay in range, and turning twice is turning once.
+-- Subsets swapped: no pixel's colour changes, the fields stay in range, and swapping twice is swapping once.
 use Prim.Native.Nat.{ℕ, suc, ◌+◌, ◌-◌, ◌*◌, ◌/◌, ◌^◌, ◌≤◌, ◌<◌}
 use native.Mathlib.Omega.{arith}
 use mathlib.Core.Path.{◌≡◌, refl, sym, ap, ap₂, ◌∙◌, subst}
@@ -115,7 +115,7 @@ module _ (m : Mode) (t : ℕ → Bool) (f : BlockFields) where
         shows : ℕ → Rgba
         shows h = end_shown m (own m f.p s) h (end_of f.ends s h)
 
-        -- and after turning
+        -- and after swapping
         after : ℕ → Rgba
         after h = end_shown m (own m (swapped_by m t f).p s) h (end_of (swapped_by m t f).ends s h)
 
@@ -179,7 +179,7 @@ module _ (m : Mode) (t : ℕ → Bool) (f : BlockFields) where
               (pick_elim (λ (n : ℕ). n < suc (largest m)) (t (subset_in m f.partition i)) (λ u. omega arith) (λ u. plain.indices i h));
         }
 
--- turning no subset leaves fields that a block can hold, but for their indices
+-- swapping no subset leaves fields that a block can hold, but for their indices
 pub swapped_none : (m : Mode) (law : Lawful m) (t : ℕ → Bool) (f : BlockFields) → Plain m f → Clean m f → ((s : ℕ) → s < m.subsets → t s ≡ false) → swapped_by m t f ≡ f
 unfolding swapped_by
 swapped_none m law t f plain clean none =

@@ -16,15 +16,15 @@ colour_at m f i = palette_at m f.ends f.p (subset_in m f.partition i) (get_or f.
 unfoldable pub colours : Mode → BlockFields → List Rgba
 colours m f = map (colour_at m f) (up_from 0 16)
 
--- the distance dist pixel i and its colour
+-- the distance between pixel i and its colour
 unfoldable pub apart_at : (Rgba → Rgba → ℕ) → Mode → List Rgba → BlockFields → ℕ → ℕ
 apart_at dist m cs f i = dist (get_or cs i clear) (colour_at m f i)
 
--- the summed distance dist pixels and the colours of fields
+-- the summed distance between pixels and the colours of fields
 unfoldable pub apart : (Rgba → Rgba → ℕ) → Mode → List Rgba → BlockFields → ℕ
 apart dist m cs f = over_pixels (apart_at dist m cs f)
 
--- dist pixels and a block, which says its mode itself
+-- the distance between pixels and a block, which says its mode itself
 unfoldable pub block_apart : (Rgba → Rgba → ℕ) → List Rgba → List ℕ → ℕ
 block_apart dist cs block =
     let m : Mode = mode_numbered (mode_of block) in

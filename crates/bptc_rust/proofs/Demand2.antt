@@ -53,7 +53,7 @@ module _ (px : List ℕ) (long : length px ≡ 48) (bytes : Bytes px) where
       (rust3 part ends (colours_of px) (pixels_of 3 px) ps inside sixteen (pixels_opaque px long) (pixels-shown px bytes) kept plain))
 
   -- finishing with a candidate that no check declines is what the Rust's steps do
-  finish_rust : (c : Candidate) → Known c.mode → Good (rgba_candidate c) → finish px c ≡ rust_of px c
+  pub finish_rust : (c : Candidate) → Known c.mode → Good (rgba_candidate c) → finish px c ≡ rust_of px c
   unfolding rust_of
   finish_rust c known good =
       rw three_channels (either c.mode known c.partition c.ends c.p good.partition good.stored

@@ -38,7 +38,7 @@ then : {x y : Rgb} {xs ys : List Rgb} → x ≡ y → xs ≡ ys → x ∷ xs ≡
 then p q = ap₂ ◌∷◌ p q
 
 -- mode 1
-paints1 : Paints mode1
+pub paints1 : Paints mode1
 unfolding palette_rgb interpolate_rgb row shade_rgb largest
 paints1 a b =
     then (first a b)
@@ -48,7 +48,7 @@ paints1 a b =
     (then (inner 37 a b (omega arith)) (then (inner 46 a b (omega arith)) (then (inner 55 a b (omega arith)) (then (last a b) refl)))))))
 
 -- mode 3
-paints3 : Paints mode3
+pub paints3 : Paints mode3
 unfolding palette_rgb interpolate_rgb row shade_rgb largest
 paints3 a b = then (first a b) (then (inner 21 a b (omega arith)) (then (inner 43 a b (omega arith)) (then (last a b) refl)))
 

@@ -34,7 +34,7 @@ four-left f g xs ys e h =
     rw (e, h) (λ t. left 0 t ∷ (left 1 t ∷ (left 2 t ∷ (left 3 t ∷ []))))
 
 -- the p-bits of two columns
-joined_columns : (i j : ℕ) → i < 4 → j < 4 → (i % 2 * 2 + i / 2) + (j % 2 * 2 + j / 2) * 4 ≡ own mode3 (column_bits i) 0 + own mode3 (column_bits j) 1 * 4
+pub joined_columns : (i j : ℕ) → i < 4 → j < 4 → (i % 2 * 2 + i / 2) + (j % 2 * 2 + j / 2) * 4 ≡ own mode3 (column_bits i) 0 + own mode3 (column_bits j) 1 * 4
 unfolding own column_bits
 joined_columns i j h k =
     eqb→eq _ _

@@ -137,7 +137,7 @@ module _ (m : Mode) (is : IsMode m) (part : ℕ) (ends : List Rgb) where
     either q r i = pick (eqb (bit (mask_of part) i) 1) (index_in m ends r (mask_of part) cs i) (index_in m ends q (mask_of part) cs i)
 
     -- by the bits of subset 1's indices
-    mixed_indexes : (q r : ℕ) →
+    pub mixed_indexes : (q r : ℕ) →
         mixed (indexes_in m ends q (mask_of part) cs) (indexes_in m ends r (mask_of part) cs) (ones_of m.index_bits part) ≡ joined_from m.index_bits (either q r) 0 16
     unfolding indexes_in ones_of largest subset_of
     mixed_indexes q r =

@@ -12,7 +12,7 @@ use Rattle.lists.specs.Tests.{pick}
 use Rattle.figures.specs.Worst.{inserted, inserted_all, Descending, times, HoldsGreatest}
 
 -- one place passed: the greater key stays, and the lesser is carried on
-carried_on : (keys : List ℕ) (key i : ℕ) → i < length keys →
+pub carried_on : (keys : List ℕ) (key i : ℕ) → i < length keys →
     take (suc i) (set keys i (max (get_or keys i 0) key))
     ++ inserted (drop (suc i) (set keys i (max (get_or keys i 0) key))) (min (get_or keys i 0) key)
     ≡ take i keys ++ inserted (drop i keys) key

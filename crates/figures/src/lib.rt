@@ -54,10 +54,11 @@ impl Figures {
     #[tactic(auto, unfolding(crate::specs::Figures::counted_all))]
     pub fn counted_row(self, errors: &[u32], row: usize) -> Figures
         requires few { (row < 4096) × (length errors.now ≤ 4096) }
-        requires bound { (self.block_errors ≤ row * 17592186044416) × (self.blocks ≤ row * 4096) × (self.place ≤ row * 4096) }
+        requires bound { (self.block_errors ≤ row * 17592186044416) × (self.blocks ≤ row * 4096) }
         ensures all { result ≡ counted_all self errors.now }
         ensures sum { result.block_errors ≤ (row + 1) * 17592186044416 }
-        ensures bound { (result.blocks ≤ (row + 1) * 4096) × (result.place ≤ (row + 1) * 4096) }
+        ensures bound { result.blocks ≤ (row + 1) * 4096 }
+        ensures place { self.place ≤ row * 4096 → result.place ≤ (row + 1) * 4096 }
     {
         let mut figures = self;
         for error in errors {

@@ -101,7 +101,7 @@ module _ (px : List ℕ) (long : length px ≡ 48) (c : Candidate) (good : Good 
   by p = fields_at squared_distance m c.partition (without_alpha c.ends) (pixels_of 3 px) p
 
   -- its indices
-  finished_indexes : given.indexes ≡ join (replicate 16 m.index_bits) packs.indices
+  pub finished_indexes : given.indexes ≡ join (replicate 16 m.index_bits) packs.indices
   unfolding nearest_at chosen_fields
   finished_indexes =
       indices_at m (is_mode c.mode) c.partition c.ends px long (bits_for m c.partition c.ends c.p px)

@@ -1,3 +1,4 @@
 pub mod Lacking
 pub mod Kept
 pub mod Finished
+pub mod Given

@@ -6,7 +6,6 @@ use crate::pair::Pair;
 use crate::table::{Form, Heading, insert_row, put_row, put_worst};
 use arguments::command::Shown;
 use arguments::numbers::Worst;
-use figures::entry::Entry;
 use messages::ending::say_done;
 use messages::say_line;
 use mistakes::failure::Failure;
@@ -18,12 +17,13 @@ use sizes::rows::Rows;
 use std::io::Print;
 
 // A plate that is measured: what is shown, the worst blocks, the buffers and the figures so far. The worst blocks are a list beside what is
-// shown, with no place where none are asked for: their lines are put after the last row.
+// shown, with no place where none are asked for: their lines are put after the last row. It holds keys, and not entries: where each block
+// is worse than those before it, this takes less than half of the time.
 #[derive(Drop)]
 struct Measuring<'a, 'b> {
     pair: &'b Pair<'a>,
     shown: Shown,
-    worst: &'b mut [Option<Entry>],
+    worst: &'b mut [u64],
     buffers: &'b mut Buffers,
     tally: Tally,
 }
@@ -45,6 +45,10 @@ impl<'a> RowWork for Measuring<'a, '_> {
             Shown::Table => put_row(rt, Form::Words, row, blocks, errors)?,
             Shown::Csv => put_row(rt, Form::Csv, row, blocks, errors)?,
             Shown::Worst(_) => insert_row(row, blocks, errors, worst),
+            Shown::Both(_) => {
+                put_row(rt, Form::Words, row, blocks, errors)?;
+                insert_row(row, blocks, errors, worst);
+            }
             Shown::Total => {}
         }
         Ok(())
@@ -56,7 +60,7 @@ fn measure_rows<'a>(
     rt: &HostRuntime,
     pair: &Pair<'a>,
     shown: Shown,
-    worst: &mut [Option<Entry>],
+    worst: &mut [u64],
 ) -> Result<Tally, Failure<'a>>
     ensures { IfOk result (λ tally. 0 < tally.rows) }
 {
@@ -70,7 +74,7 @@ fn measure_rows<'a>(
         tally: Tally::new(size, 0),
     };
     let name = match shown {
-        Shown::Table | Shown::Csv => None,
+        Shown::Table | Shown::Both(_) | Shown::Csv => None,
         Shown::Worst(_) | Shown::Total => Some("measuring"),
     };
     each_row(rt, name, Rows::all(size), &mut work)?;
@@ -86,18 +90,20 @@ pub fn worst_error<'a>(rt: &HostRuntime, pair: &Pair<'a>) -> Result<u32, Failure
 // Measures a plate and says its table or its worst blocks, where these are shown, and its figures. The table is said while the plate is
 // measured, the worst blocks behind it.
 fn say_measured<'a>(rt: &HostRuntime, pair: &Pair<'a>, shown: Shown) -> Result<(), Failure<'a>> {
-    if shown == Shown::Table {
+    if let Shown::Table | Shown::Both(_) = shown {
         say_line(rt, Heading(Form::Words))?;
     }
     // Room for the most: the program takes no heap.
-    let mut all = [None; Worst::MOST];
+    let mut all = [0; Worst::MOST];
     let worst = match shown {
-        Shown::Worst(Worst { count, .. }) => &mut all[..count],
+        Shown::Worst(Worst { count, .. }) | Shown::Both(Worst { count, .. }) => &mut all[..count],
         _ => &mut all[..0],
     };
     let tally = measure_rows(rt, pair, shown, worst)?;
     if let Shown::Worst(_) = shown {
         say_line(rt, Heading(Form::Words))?;
+    }
+    if let Shown::Worst(_) | Shown::Both(_) = shown {
         put_worst(rt, worst, pair.photo.size.columns())?;
     }
     say_line(rt, Report::new(&tally))?;
@@ -124,6 +130,8 @@ pub fn measure<'a>(
     let pair = Pair::open(rt, photo_path, plate_path)?;
     match shown {
         Shown::Csv => say_csv(rt, &pair),
-        Shown::Table | Shown::Worst(_) | Shown::Total => say_measured(rt, &pair, shown),
+        Shown::Table | Shown::Worst(_) | Shown::Both(_) | Shown::Total => say_measured(
+            rt, &pair, shown,
+        ),
     }
 }

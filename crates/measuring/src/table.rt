@@ -92,8 +92,8 @@ pub(crate) fn put_row(
     lines.flush()
 }
 
-// Keeps the worst of a row of blocks that are measured, so that none is declined and left out.
-pub(crate) fn insert_row(row: usize, blocks: &[u8], errors: &[u32], worst: &mut [Option<Entry>])
+// Keeps the keys of the worst of a row of blocks that are measured, so that none is declined and left out.
+pub(crate) fn insert_row(row: usize, blocks: &[u8], errors: &[u32], keys: &mut [u64])
     requires { (length errors.now ≤ 4096) × (row < 4096) }
 {
     let columns = errors.len();
@@ -103,10 +103,10 @@ pub(crate) fn insert_row(row: usize, blocks: &[u8], errors: &[u32], worst: &mut 
         };
         // below 2 ^ 24, as a row and a column are below 2 ^ 12
         let number = number_at(row, columns, column) as u32;
-        let entry = Entry::new(*error, number, mode, partition);
+        let key = Entry::new(*error, number, mode, partition).key();
         // most blocks are no worse than the last of these, and would fall out after a walk over all places
-        if worst.last().is_some_and(|last| *last < Some(entry)) {
-            insert(worst, entry);
+        if keys.last().is_some_and(|last| *last < key) {
+            insert(keys, key);
         }
     }
 }
@@ -125,15 +125,15 @@ fn line_of(entry: Entry, columns: NonZeroUsize) -> TableLine {
     }
 }
 
-// The lines of the worst blocks, the worst first.
+// The lines of the worst blocks, the worst first, by their keys.
 pub(crate) fn put_worst(
     rt: &impl Print,
-    worst: &[Option<Entry>],
+    keys: &[u64],
     columns: NonZeroUsize,
 ) -> Result<(), NotSaid> {
     let mut lines = Lines::new(rt);
-    for entry in worst.iter().flatten() {
-        lines.put(line_of(*entry, columns))?;
+    for entry in keys.iter().filter_map(|key| Entry::of_key(*key)) {
+        lines.put(line_of(entry, columns))?;
     }
     lines.flush()
 }

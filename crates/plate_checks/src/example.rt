@@ -18,6 +18,11 @@ pub(crate) fn bake_and_measure(rt: &HostRuntime) {
     say_same(rt, "errors.ppm", "map.ppm");
     run(
         rt,
+        b"map\x00--linear\x00signal.ppm\x00signal.bc7\x00errors.ppm\x00",
+    );
+    say_same(rt, "errors.ppm", "linear_worst.ppm");
+    run(
+        rt,
         b"map\x00--linear\x00--white\x00400\x00signal.ppm\x00signal.bc7\x00errors.ppm\x00",
     );
     say_same(rt, "errors.ppm", "linear.ppm");

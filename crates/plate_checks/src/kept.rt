@@ -1,11 +1,15 @@
 // Files that are compared and written.
+ghost use Rattle.std.specs.Prelude.{◌≤◌, length};
+
 use files::read_full;
 use std::fs;
 use std::fs::File;
 use std::io::Print;
 
 // The bytes of a file, of which the buffer must have room for all; none where it cannot be read, as no file that is compared is empty.
-pub(crate) fn read<'b>(rt: &HostRuntime, path: &str, buffer: &'b mut [u8]) -> &'b [u8] {
+pub(crate) fn read<'b>(rt: &HostRuntime, path: &str, buffer: &'b mut [u8]) -> &'b [u8]
+    ensures { length result.now ≤ length buffer.old }
+{
     let Ok(mut file) = File::open(rt, path) else {
         return &[];
     };

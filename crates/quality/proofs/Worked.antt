@@ -11,6 +11,7 @@ unfolding mean_of log_bits log_in psnr_of count_leading_zeros
 worked = record {
   thirds = refl;
   half_up = refl;
+  none = refl;
   eight = refl;
   exact = refl;
   twenty = refl;

@@ -1,9 +1,10 @@
 -- The mean squared error of a channel value.
-use Rattle.std.specs.Prelude.{ℕ, ◌+◌, ◌*◌, ◌/◌, ◌≤◌, ◌<◌}
+use Rattle.std.specs.Prelude.{ℕ, ◌+◌, ◌*◌, ◌/◌, ◌≤◌, ◌<◌, eqb}
+use Rattle.lists.specs.Tests.{pick}
 
--- the mean in thousandths of so many values with a total, rounded to the nearest, a half up
+-- the mean in thousandths of so many values with a total, rounded to the nearest, a half up; 0 where there are no values
 unfoldable pub mean_of : ℕ → ℕ → ℕ
-mean_of total values = (2000 * total + values) / (2 * values)
+mean_of total values = pick (eqb values 0) 0 ((2000 * total + values) / (2 * values))
 
 -- a mean in thousandths is at most half a thousandth from the quotient of total and values
 pub record Nearest (total values mean : ℕ) : Type 0 where

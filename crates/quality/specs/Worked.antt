@@ -9,6 +9,8 @@ pub record Worked : Type 0 where
   pub thirds : mean_of 2 3 ≡ 667
   -- a mean of 1/16 is 0.0625 and so 0.063
   pub half_up : mean_of 3 48 ≡ 63
+  -- no values have a mean of 0
+  pub none : mean_of 5 0 ≡ 0
   -- the binary logarithm of 8 is 3
   pub eight : log_in 10 8 ≡ 3072
   -- a picture without an error

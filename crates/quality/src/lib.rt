@@ -6,13 +6,16 @@ ghost use Rattle.std.specs.Prelude.{◌≡◌, ◌+◌, ◌*◌, ◌^◌, ◌<�
 ghost use Rattle.quality.specs.Mean.{mean_of};
 ghost use Rattle.quality.specs.Psnr.{log_bit, scaled_square, log_in, psnr_of};
 
-// The mean squared error of a channel value in thousandths, rounded to the nearest, a half up. The remainder is scaled apart, so that no
-// product wraps.
-#[tactic(auto, using(crate::proofs::Rounding::mean_split, crate::proofs::Rounding::whole_most), unfolding(crate::specs::Mean::mean_of))]
+// The mean squared error of a channel value in thousandths, rounded to the nearest, a half up, and 0 for no values. The remainder is scaled
+// apart, so that no product wraps where the mean is at most 2^54.
+#[tactic(auto, using(crate::proofs::Rounding::mean_split, crate::proofs::Rounding::mean_some, crate::proofs::Rounding::whole_most), unfolding(crate::specs::Mean::mean_of))]
 pub fn mean(total: u64, values: u64) -> u64
-    requires { (total ≤ 17592186044416 * values) × (0 < values) × (values ≤ 805306368) }
+    requires { (0 < values → total ≤ 2 ^ 54 * values) × (values ≤ 805306368) }
     ensures { result ≡ mean_of total values }
 {
+    if values == 0 {
+        return 0;
+    }
     let twice = 2 * values;
     total / values * 1000 + (total % values * 2000 + values) / twice
 }
@@ -65,7 +68,7 @@ const HUNDREDTHS: u128 = 5553023288523357132280;
 // wrong by 255 everywhere, and there is none where the total is 0. Cast, as it is below 2^15.
 #[tactic(auto, unfolding(crate::specs::Psnr::psnr_of))]
 pub fn psnr(total: u64, values: u64) -> Option<u64>
-    requires { (0 < values) × (values ≤ 805306368) }
+    requires { (0 < total → 0 < values) × (values ≤ 805306368) }
     ensures { result ≡ psnr_of total values }
 {
     if total == 0 {

@@ -9,7 +9,7 @@ use quality::{mean, psnr};
 use std::io;
 use text::line::{Hundredths, Thousandths};
 
-// The greatest total over one channel value that has a mean, and the most values of a picture.
+// The greatest total over one channel value that has a line, and the most values of a picture.
 const TOTAL: u64 = 17592186044416;
 
 const VALUES: u64 = 805306368;

@@ -26,9 +26,8 @@ pub struct Report {
 }
 
 impl Report {
-    // The report of the rows that are counted, at least one.
+    // The report of the rows that are counted. Of none the mean is 0, as where they are exact.
     pub fn new(tally: &Tally) -> Report
-        requires { 0 < tally.now.rows }
         ensures total { result.total ≡ tally.now.own }
         ensures pixels { result.pixels ≡ tally.now.size.width * min (tally.now.size.height - tally.now.from * 4) (tally.now.rows * 4) }
         ensures mean { result.mean.0 ≡ mean_of result.total (3 * result.pixels) }
@@ -45,7 +44,8 @@ impl Report {
             figures,
             own: total,
         } = *tally;
-        let height = (size.height - from * 4).min(rows * 4);
+        // saturating, as the first of no rows may lie behind the picture
+        let height = size.height.saturating_sub(from * 4).min(rows * 4);
         // Rust has no From between u64 and usize
         let pixels = (size.width * height) as u64;
         let place = figures.place as usize;

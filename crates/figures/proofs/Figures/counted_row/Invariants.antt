@@ -8,4 +8,4 @@ invariant-loop-error l =
     (counted_all l.figures (drop l.error-index l.errors) ≡ counted_all l.initial.figures l.errors)
     × (l.figures.block_errors ≤ l.row * 17592186044416 + l.error-index * 4294967295)
     × (l.figures.blocks ≤ l.row * 4096 + l.error-index)
-    × (l.figures.place ≤ l.row * 4096 + l.error-index)
+    × (l.initial.figures.place ≤ l.row * 4096 → l.figures.place ≤ l.row * 4096 + l.error-index)
