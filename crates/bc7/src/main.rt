@@ -10,10 +10,9 @@ const LINE: usize = 32768;
 // How many arguments are read, with the name of the program: more than any command takes.
 const ARGUMENTS: usize = 9;
 
-// The arguments one behind the other, with a 0 byte behind each, in fixed memory. One that is too long is empty, as
-// a line of bytes can say no more of it.
-fn command_line(env: &impl Env) -> Line<LINE> {
-    let mut line = Line::new();
+// Puts the arguments one behind the other, with a 0 byte behind each, in fixed memory. One that is too long is empty, as
+// a line of bytes can say no more of it. The line is lent: one that is answered would stand twice under every command.
+fn put_arguments(env: &impl Env, line: &mut Line<LINE>) {
     let mut word = [0u8; 4096];
     // by their places: std's iterator of the arguments takes heap
     for k in 1..ARGUMENTS {
@@ -24,11 +23,11 @@ fn command_line(env: &impl Env) -> Line<LINE> {
         }
         line.put(b"\0");
     }
-    line
 }
 
 // Runs the command that the arguments name.
 fn main(rt: HostRuntime) {
-    let line = command_line(&rt);
+    let mut line = Line::new();
+    put_arguments(&rt, &mut line);
     commands::run(&rt, line.as_bytes());
 }

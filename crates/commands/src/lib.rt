@@ -14,9 +14,12 @@ use std::fmt::Display;
 use std::io::Print;
 use text::words::Words;
 
-// How many words are looked at: more than any command takes, and as many as `bc7` hands over. They stand in fixed memory, as the program
+// How many words are handed on: more than any command takes, and as many as `bc7` hands over. They stand in fixed memory, as the program
 // takes no heap.
 const WORDS: usize = 8;
+
+// Room for these, and for an empty word that stands for those behind them.
+const ROOM: usize = 9;
 
 // Says the help of a command, or of all.
 fn say_help(rt: &impl Print, name: Option<Name>) -> Result<(), NotSaid> {
@@ -106,7 +109,11 @@ fn run_words(rt: &HostRuntime, words: &[&[u8]]) {
 
 // Runs the command of a line, in which a 0 byte ends each word. The last line on standard output says how it ended.
 pub fn run(rt: &HostRuntime, line: &[u8]) {
-    let mut words = ArrayVec::<&[u8], WORDS>::new();
+    let mut words = ArrayVec::<&[u8], ROOM>::new();
     let _ = words.extend(Words::new(line).take(WORDS));
+    // of the words behind those an empty one alone is looked for, which is refused wherever it stands
+    if Words::new(line).skip(WORDS).any(|word| word.is_empty()) {
+        let _ = words.try_push(b"");
+    }
     run_words(rt, words.as_slice());
 }

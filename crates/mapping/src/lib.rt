@@ -54,7 +54,9 @@ impl<'a> RowWork for Mapping<'a, '_> {
     }
 }
 
-// Writes the map row by row.
+// Writes the map row by row. Out of line, so that its buffers take stack and time of this command alone: in line the compiler puts them
+// into the function that runs every command.
+#[inline(never)]
 fn map_rows<'a>(
     rt: &HostRuntime,
     pair: &Pair<'a>,
@@ -62,13 +64,14 @@ fn map_rows<'a>(
     white: u32,
     out: &Output<'a>,
 ) -> Result<(), Failure<'a>> {
+    // before anything is written, or the compiler fills them twice
+    let mut buffers = Buffers::new();
     let size = pair.photo.size;
     let map = Size {
         width: size.columns().get(),
         height: size.rows(),
     };
     write_header(out, map)?;
-    let mut buffers = Buffers::new();
     let mut work = Mapping {
         pair,
         scale,

@@ -87,10 +87,10 @@ pub fn worst_error<'a>(rt: &HostRuntime, pair: &Pair<'a>) -> Result<u32, Failure
     Ok(tally.figures().worst)
 }
 
-// Measures a plate and says its table or its worst blocks, where these are shown, and its figures. The table is said while the plate is
-// measured, the worst blocks behind it.
+// Measures a plate and says its table or its worst blocks, where these are shown, and its figures. The heading stands before what is
+// measured, also where that fails; the table is said while the plate is measured, the worst blocks behind it.
 fn say_measured<'a>(rt: &HostRuntime, pair: &Pair<'a>, shown: Shown) -> Result<(), Failure<'a>> {
-    if let Shown::Table | Shown::Both(_) = shown {
+    if let Shown::Table | Shown::Worst(_) | Shown::Both(_) = shown {
         say_line(rt, Heading(Form::Words))?;
     }
     // Room for the most: the program takes no heap.
@@ -100,9 +100,6 @@ fn say_measured<'a>(rt: &HostRuntime, pair: &Pair<'a>, shown: Shown) -> Result<(
         _ => &mut all[..0],
     };
     let tally = measure_rows(rt, pair, shown, worst)?;
-    if let Shown::Worst(_) = shown {
-        say_line(rt, Heading(Form::Words))?;
-    }
     if let Shown::Worst(_) | Shown::Both(_) = shown {
         put_worst(rt, worst, pair.photo.size.columns())?;
     }

@@ -125,7 +125,8 @@ fn line_of(entry: Entry, columns: NonZeroUsize) -> TableLine {
     }
 }
 
-// The lines of the worst blocks, the worst first, by their keys.
+// The lines of the worst blocks, the worst first, by their keys. Out of line, so that their text takes no stack under the measuring.
+#[inline(never)]
 pub(crate) fn put_worst(
     rt: &impl Print,
     keys: &[u64],

@@ -52,7 +52,9 @@ impl fmt::Display for ModeName {
         if self.0 == RESERVED {
             return f.write_str("reserved");
         }
-        write!(f, "mode {}", self.0)
+        // piece by piece, as `read` says it of each block: around a `write!` std's formatter keeps and restores its options
+        f.write_str("mode ")?;
+        fmt::Display::fmt(&self.0, f)
     }
 }
 

@@ -12,9 +12,12 @@ use mistakes::failure::{Failure, NotSaid};
 use mistakes::plate::PlateMistake;
 use mistakes::unreadable::BlockMode;
 use sizes::size::ROW;
-use std::fmt;
+use std::fmt::{self, Display};
 use std::io::Print;
 use std::num::NonZeroU64;
+
+// What is said of a block is written piece by piece: around a `write!` inside another std's formatter keeps and restores its options, which
+// would take half of a line's time.
 
 // An endpoint: red, green, blue. The colour itself is another crate's, where nothing prints it.
 #[derive(Clone, Copy)]
@@ -22,12 +25,16 @@ struct End(Rgb);
 
 impl fmt::Display for End {
     fn fmt<W: fmt::Write>(&self, f: &mut fmt::Formatter<W>) -> fmt::Result {
-        write!(f, "{} {} {}", self.0.r, self.0.g, self.0.b)
+        Display::fmt(&self.0.r, f)?;
+        f.write_str(" ")?;
+        Display::fmt(&self.0.g, f)?;
+        f.write_str(" ")?;
+        Display::fmt(&self.0.b, f)
     }
 }
 
-// The p-bits of a block of mode 1 or 3, the lowest first: one for each subset in mode 1, one for each endpoint in mode 3. The mode is told
-// by its number, the form in which `block::read` answers it.
+// The p-bits of a block of mode 1 or 3 with a space before each, the lowest first: one for each subset in mode 1, one for each endpoint in
+// mode 3. The mode is told by its number, the form in which `block::read` answers it.
 #[derive(Clone, Copy)]
 struct BitList {
     mode: u8,
@@ -36,11 +43,13 @@ struct BitList {
 
 impl fmt::Display for BitList {
     fn fmt<W: fmt::Write>(&self, f: &mut fmt::Formatter<W>) -> fmt::Result {
-        let p = self.p;
-        match self.mode {
-            1 => write!(f, "{} {}", p % 2, p / 2 % 2),
-            _ => write!(f, "{} {} {} {}", p % 2, p / 2 % 2, p / 4 % 2, p / 8 % 2),
+        let count = if self.mode == 1 { 2 } else { 4 };
+        let mut rest = self.p;
+        for _ in 0..count {
+            f.write_str(if rest % 2 == 0 { " 0" } else { " 1" })?;
+            rest /= 2;
         }
+        Ok(())
     }
 }
 
@@ -50,10 +59,15 @@ struct Indices([u8; 16]);
 
 impl fmt::Display for Indices {
     fn fmt<W: fmt::Write>(&self, f: &mut fmt::Formatter<W>) -> fmt::Result {
-        for index in self.0 {
-            write!(f, " {index}")?;
+        let mut text = [b' '; 32];
+        for i in 0..16 {
+            // one digit, as an index has three bits at most
+            text[2 * i + 1] = b'0' + self.0[i] % 8;
         }
-        Ok(())
+        match str::from_utf8(&text) {
+            Ok(text) => f.write_str(text),
+            Err(_) => Err(fmt::Error),
+        }
     }
 }
 
@@ -66,17 +80,22 @@ impl fmt::Display for InWords {
         let mode = self.0.mode;
         let fields = self.0.fields;
         let [first, second, third, fourth] = fields.ends;
-        write!(
-            f,
-            "mode {mode}, partition {}, subset 0 from {} to {}, subset 1 from {} to {}, p-bits {}, indices{}",
-            fields.partition,
-            End(first),
-            End(second),
-            End(third),
-            End(fourth),
-            BitList { mode, p: fields.p },
-            Indices(fields.indices)
-        )
+        f.write_str("mode ")?;
+        Display::fmt(&mode, f)?;
+        f.write_str(", partition ")?;
+        Display::fmt(&fields.partition, f)?;
+        f.write_str(", subset 0 from ")?;
+        End(first).fmt(f)?;
+        f.write_str(" to ")?;
+        End(second).fmt(f)?;
+        f.write_str(", subset 1 from ")?;
+        End(third).fmt(f)?;
+        f.write_str(" to ")?;
+        End(fourth).fmt(f)?;
+        f.write_str(", p-bits")?;
+        BitList { mode, p: fields.p }.fmt(f)?;
+        f.write_str(", indices")?;
+        Indices(fields.indices).fmt(f)
     }
 }
 
@@ -90,7 +109,8 @@ struct Numbered {
 impl fmt::Display for Numbered {
     fn fmt<W: fmt::Write>(&self, f: &mut fmt::Formatter<W>) -> fmt::Result {
         let number = self.number;
-        write!(f, "block {number}")?;
+        f.write_str("block ")?;
+        Display::fmt(&number, f)?;
         if let Some(columns) = self.columns {
             write!(
                 f,
@@ -103,22 +123,27 @@ impl fmt::Display for Numbered {
     }
 }
 
-// The line of a block.
+// The line of a block. It is read where it is written, or what was read would be copied on the way.
 #[derive(Clone, Copy)]
-struct BlockLine {
+struct BlockLine<'b> {
     at: Numbered,
-    reading: Option<Reading>,
+    block: &'b [u8],
     mode: BlockMode,
 }
 
-impl fmt::Display for BlockLine {
+impl fmt::Display for BlockLine<'_> {
     fn fmt<W: fmt::Write>(&self, f: &mut fmt::Formatter<W>) -> fmt::Result {
-        write!(f, "{}: ", self.at)?;
-        match self.reading {
-            Some(reading) => write!(f, "{}", InWords(reading)),
-            None if self.mode.is_reserved() => f.write_str("reserved, its first byte is 0"),
-            None => write!(f, "{}, which is not read", self.mode),
+        self.at.fmt(f)?;
+        if self.mode.is_reserved() {
+            return f.write_str(": reserved, its first byte is 0");
         }
+        f.write_str(": ")?;
+        let mut pixels = [0u8; 48];
+        if let Ok(reading) = block::read(self.block, &mut pixels) {
+            return InWords(reading).fmt(f);
+        }
+        Display::fmt(&self.mode, f)?;
+        f.write_str(", which is not read")
     }
 }
 
@@ -143,17 +168,18 @@ fn put_blocks(
 {
     let mut lines = Lines::new(rt);
     for (number, block) in (first..u64::MAX).zip(blocks.chunks_exact(16)) {
-        let mut pixels = [0u8; 48];
         lines.put(BlockLine {
             at: Numbered { number, columns },
-            reading: block::read(block, &mut pixels).ok(),
+            block,
             mode: BlockMode::of(block[0]),
         })?;
     }
     lines.flush()
 }
 
-// Reads the blocks of a plate, so many at a time.
+// Reads the blocks of a plate, so many at a time. Out of line, so that its buffer takes stack of this command alone: in line the compiler
+// puts it into the function that runs every command.
+#[inline(never)]
 fn read_all<'a>(
     rt: &impl Print,
     plate: &Plate<'a>,

@@ -55,15 +55,18 @@ impl<'a> RowWork for Showing<'a, '_> {
     }
 }
 
-// Writes the picture row by row.
+// Writes the picture row by row. Out of line, so that its buffers take stack and time of this command alone: in line the compiler puts them
+// into the function that runs every command.
+#[inline(never)]
 fn show_rows<'a>(
     rt: &HostRuntime,
     plate: &Plate<'a>,
     size: Size,
     out: &Output<'a>,
 ) -> Result<(), Failure<'a>> {
-    write_header(out, size)?;
+    // before anything is written, or the compiler fills them twice
     let mut buffers = Buffers::new();
+    write_header(out, size)?;
     let mut work = Showing {
         plate,
         size,
