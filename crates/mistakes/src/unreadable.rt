@@ -48,13 +48,19 @@ impl BlockMode {
 struct ModeName(u8);
 
 impl fmt::Display for ModeName {
+    // A text for each, as `read` says it of each block: std writes a number in several steps.
     fn fmt<W: fmt::Write>(&self, f: &mut fmt::Formatter<W>) -> fmt::Result {
-        if self.0 == RESERVED {
-            return f.write_str("reserved");
-        }
-        // piece by piece, as `read` says it of each block: around a `write!` std's formatter keeps and restores its options
-        f.write_str("mode ")?;
-        fmt::Display::fmt(&self.0, f)
+        f.write_str(match self.0 {
+            0 => "mode 0",
+            1 => "mode 1",
+            2 => "mode 2",
+            3 => "mode 3",
+            4 => "mode 4",
+            5 => "mode 5",
+            6 => "mode 6",
+            7 => "mode 7",
+            _ => "reserved",
+        })
     }
 }
 

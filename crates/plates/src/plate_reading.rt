@@ -138,12 +138,16 @@ impl fmt::Display for BlockLine<'_> {
             return f.write_str(": reserved, its first byte is 0");
         }
         f.write_str(": ")?;
-        let mut pixels = [0u8; 48];
-        if let Ok(reading) = block::read(self.block, &mut pixels) {
-            return InWords(reading).fmt(f);
+        if !self.mode.is_read() {
+            Display::fmt(&self.mode, f)?;
+            return f.write_str(", which is not read");
         }
-        Display::fmt(&self.mode, f)?;
-        f.write_str(", which is not read")
+        let mut pixels = [0u8; 48];
+        match block::read(self.block, &mut pixels) {
+            Ok(reading) => InWords(reading).fmt(f),
+            // sixteen bytes of a mode that is read are never declined
+            Err(refusal) => Display::fmt(&refusal, f),
+        }
     }
 }
 
