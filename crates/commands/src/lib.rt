@@ -111,7 +111,7 @@ fn run_words(rt: &HostRuntime, words: &[&[u8]]) {
 pub fn run(rt: &HostRuntime, line: &[u8]) {
     let mut words = ArrayVec::<&[u8], ROOM>::new();
     let _ = words.extend(Words::new(line).take(WORDS));
-    // of the words behind those an empty one alone is looked for, which is refused wherever it stands
+    // of the words behind those an empty one alone is looked for, which is refused unless help or the version is asked for
     if Words::new(line).skip(WORDS).any(|word| word.is_empty()) {
         let _ = words.try_push(b"");
     }

@@ -18,7 +18,7 @@ use std::io::Print;
 
 // A plate that is measured: what is shown, the worst blocks, the buffers and the figures so far. The worst blocks are a list beside what is
 // shown, with no place where none are asked for: their lines are put after the last row. It holds keys, and not entries: where each block
-// is worse than those before it, this takes less than half of the time.
+// is worse than those before it, this takes about half of the time.
 #[derive(Drop)]
 struct Measuring<'a, 'b> {
     pair: &'b Pair<'a>,
